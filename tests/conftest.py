@@ -39,7 +39,7 @@ MARKS = (
 )
 
 
-def pytest_configure(config: pytest.Config) -> None:
+def pytest_configure(config: pytest.Config):
     for mark in MARKS:
         config.addinivalue_line("markers", mark)
     if packages := debian.missing():
@@ -54,7 +54,7 @@ def pytest_configure(config: pytest.Config) -> None:
 
 
 @pytest.hookimpl(tryfirst=True)
-def pytest_collection_modifyitems(items: list[pytest.Item]) -> None:
+def pytest_collection_modifyitems(items: list[pytest.Item]):
     def place(item: pytest.Item) -> int:
         name = item.parent.name if item.parent else ""
         return next(
@@ -76,7 +76,7 @@ def pytest_runtest_protocol() -> Iterator[None]:
         variable.set(value)
 
 
-def pytest_terminal_summary(terminalreporter: TerminalReporter) -> None:
+def pytest_terminal_summary(terminalreporter: TerminalReporter):
     stats = terminalreporter.stats
     reasons = collections.Counter(
         report.longrepr[2].removeprefix("Skipped: ") for report in stats.get("skipped", [])

@@ -32,8 +32,8 @@ def output_of(*words, **how):
 # ---------------------------------------------------------------- the help
 def commands_in(text):
     """The commands of a help, in its order."""
-    part = re.search(r"^Commands:\n((?: .*\n)+)", text, re.MULTILINE)
-    return re.findall(r"^  ([a-z]+) ", part[1], re.MULTILINE) if part else []
+    [part] = re.findall(r"(?m)^Commands:\n((?: .*\n)+)", text)
+    return re.findall(r"(?m)^  ([a-z]+) ", part)
 
 
 def options_in(text):
@@ -49,28 +49,18 @@ def statuses_of_help():
 
 def faults_of_formats():
     """The statuses of docs/FORMATS.md that have fault lines, and the words of these."""
-    text = (
-        FORMATS.read_text()
-        .partition("\n## Fault lines and exit statuses\n")[2]
-        .partition("After `poll refused: `")[0]
-    )
-    return [
-        (number, re.findall(r"`(.*?)`", words))
-        for number, words in re.findall(r"^- (\d+): (.*)$", text, re.MULTILINE)
-    ]
+    text = FORMATS.read_text().partition("\n## Fault lines and exit statuses\n")[2]
+    lines = re.findall(r"(?m)^- (\d+): (.*)$", text.partition("After `poll refused: `")[0])
+    return [(number, re.findall(r"`(.*?)`", words)) for number, words in lines]
 
 
 @functools.cache
 def options_by_command():
     """The options of debvote itself, by the name "", and of each of its commands."""
     top = output_of(PROGRAM, "--help")
-    options = {"": options_in(top)}
-    for command in commands_in(top):
-        # the command help has no help itself
-        options[command] = (
-            [] if command == "help" else options_in(output_of(PROGRAM, command, "--help"))
-        )
-    return options
+    # the command help has no help itself
+    helps = {command: output_of(PROGRAM, command, "--help") for command in commands_in(top)}
+    return {"": options_in(top)} | {name: options_in(helps[name]) for name in helps} | {"help": []}
 
 
 # ---------------------------------------------------------------- the manual pages
@@ -96,20 +86,15 @@ def sentence(words):
 
 
 def tagged_options(text):
-    """The options that a page explains, each in a paragraph with a tag."""
-    return [
-        option
-        for tag in re.findall(r"^\.TP\n(.*)", text, re.MULTILINE)
-        for option in re.findall(OPTION, tag)
-    ]
+    """The options that a page explains, each in a paragraph with a tag; sorted."""
+    tags = re.findall(r"(?m)^\.TP\n(.*)", text)
+    return sorted(re.findall(OPTION, " ".join(tags)))
 
 
 @functools.cache
 def options_of_election():
     """The options of each command of debvote-election, in the order of its commands."""
-    names = re.findall(
-        r"^    ([a-z]+) ", output_of(sys.executable, ELECTION, "--help"), re.MULTILINE
-    )
+    names = re.findall(r"(?m)^    ([a-z]+) ", output_of(sys.executable, ELECTION, "--help"))
     return {name: options_in(output_of(sys.executable, ELECTION, name, "--help")) for name in names}
 
 
@@ -140,146 +125,89 @@ class HelpTest(expecting.Expecting):
     def test_words_of_help(self):
         """The line above the usage, and the words of the exit statuses; commands and options were read."""
         options = options_by_command()
-        self.expect(
-            "the help names commands and options",
-            len(options) > 4 and all(options[name] for name in options if name != "help"),
-            True,
-        )
-        said = output_of(PROGRAM, "--help")
-        about = re.search(r"the line above its usage is `(.*?)`", FORMATS.read_text())
-        self.expect(
-            "--help: the line above the usage",
-            said.partition("\n\nUsage: ")[0],
-            about[1] if about else None,
-        )
-        self.expect(
-            "--help: the exit statuses",
-            [number for number, _ in statuses_of_help()],
-            [str(number) for number in range(11)],
-        )
+        self.assertGreater(len(options), 4)
+        self.expect("without options", [name for name in options if not options[name]], ["help"])
+        said = output_of(PROGRAM, "--help").partition("\n\nUsage: ")[0]
+        about = re.findall(r"the line above its usage is `(.*?)`", FORMATS.read_text())
+        self.expect("--help: the line above the usage", [said], about)
+        numbers = [number for number, _ in statuses_of_help()]
+        self.expect("--help: the exit statuses", numbers, [*map(str, range(11))])
 
     def test_names_of_values(self):
         """In the usage of each command they are in capitals, as they are in its pages, or are choices."""
         commands = [(ELECTION, name) for name in options_of_election()]
-        self.expect("there are commands", len(commands) > 15, True)
+        self.assertGreater(len(commands), 15)
         for words in [(PUBLISH,), *commands]:
             usage = output_of(sys.executable, *words, "--help").partition("\n\n")[0].split()
-            values = [
-                word
-                for word in usage[1 + len(words) :]
-                if not word.lstrip("[(").startswith(("-", "{"))
-            ]
-            self.expect(
-                f"{words[-1]}: names of values",
-                [word for word in values if word != word.upper()],
-                [],
-            )
+            values = [word for word in usage[1 + len(words) :] if word.lstrip("[(")[0] not in "-{"]
+            wanted = [value.upper() for value in values]
+            self.expect(f"{words[-1]}: names of values", values, wanted)
 
     def test_version(self):
         """The version in the code; everywhere else it is the same."""
         version = output_of(PROGRAM, "--version").strip()
-        self.expect(
-            "docs/FORMATS.md: the version",
-            set(re.findall(r"`(debvote \d[\d.]*)`", FORMATS.read_text())),
-            {version},
-        )
-        heads = re.findall(
-            r"^## (\d[\d.]*), \d{4}-\d\d-\d\d$", (ROOT / "CHANGELOG.md").read_text(), re.MULTILINE
-        )
-        self.expect(
-            "CHANGELOG.md: the newest version", [f"debvote {head}" for head in heads[:1]], [version]
-        )
+        named = set(re.findall(r"`(debvote \d[\d.]*)`", FORMATS.read_text()))
+        self.expect("docs/FORMATS.md: the version", named, {version})
+        log = (ROOT / "CHANGELOG.md").read_text()
+        [newest, *_] = re.findall(r"(?m)^## (\d[\d.]*), \d{4}-\d\d-\d\d$", log)
+        self.expect("CHANGELOG.md: the newest version", f"debvote {newest}", version)
         for program in (ELECTION, PUBLISH):
-            found = [output_of(sys.executable, program, word) for word in ("--version", "-V")]
-            self.expect(
-                f"{program.name} --version",
-                found,
-                [f"{program.name} {version.removeprefix('debvote ')}\n"] * 2,
-            )
+            wanted = f"{program.name} {version.removeprefix('debvote ')}\n"
+            for word in ("--version", "-V"):
+                found = output_of(sys.executable, program, word)
+                self.expect(f"{program.name} {word}", found, wanted)
         for page in sorted((ROOT / "man").iterdir()):
-            head = page.read_text().splitlines()[0].replace("\\-", "-")
-            self.expect(
-                f"{page.name}: its head",
-                re.findall(r'^\.TH (\S+) 1 \S+ "(.*?)"', head),
-                [(page.stem.upper(), version)],
-            )
+            found = re.findall(r'\A\.TH (\S+) 1 \S+ "(.*?)"', plain(page.read_text()))
+            self.expect(f"{page.name}: its head", found, [(page.stem.upper(), version)])
 
 
 class PagesTest(expecting.Expecting):
     def test_page_of_debvote(self):
         page = plain((ROOT / "man" / "debvote.1").read_text())
-        names = re.findall(
-            r"^\.SS (\w+)$",
-            page[page.index("\n.SH COMMANDS") : page.index("\n.SH OPTIONS")],
-            re.MULTILINE,
-        )
-        self.expect(
-            "debvote.1: its commands", sorted(names), sorted(set(options_by_command()) - {""})
-        )
-        self.expect(
-            "debvote.1: options without a command",
-            sorted(tagged_options(part_of(page, "OPTIONS"))),
-            sorted(options_by_command()[""]),
-        )
+        own = options_by_command()
+        part = page[page.index("\n.SH COMMANDS") : page.index("\n.SH OPTIONS")]
+        names = re.findall(r"(?m)^\.SS (\w+)$", part)
+        self.expect("debvote.1: its commands", sorted(["", *names]), sorted(own))
+        found = tagged_options(part_of(page, "OPTIONS"))
+        self.expect("debvote.1: options without a command", found, sorted(own[""]))
         synopsis = part_of(page, "SYNOPSIS")
         for command in names:
-            wanted = sorted(set(options_by_command().get(command, [])) - {"--help"})
-            self.expect(
-                f"debvote.1: options of {command}",
-                sorted(tagged_options(part_of(page, command))),
-                wanted,
-            )
-            line = re.search(
-                rf"^debvote {command}\n(.*?)(?=^\.br|\Z)", synopsis, re.MULTILINE | re.DOTALL
-            )
-            self.expect(
-                f"debvote.1: synopsis of {command}",
-                sorted(re.findall(OPTION, line[1] if line else "")),
-                wanted,
-            )
+            wanted = sorted(set(own[command]) - {"--help"})
+            found = tagged_options(part_of(page, command))
+            self.expect(f"debvote.1: options of {command}", found, wanted)
+            [line] = re.findall(rf"(?ms)^debvote {command}\n(.*?)(?=^\.br|\Z)", synopsis)
+            found = sorted(re.findall(OPTION, line))
+            self.expect(f"debvote.1: synopsis of {command}", found, wanted)
         statuses = re.findall(
-            r"^\.TP\n(\d+)\n((?:(?!\.TP\n).*\n)*)", part_of(page, "EXIT STATUS"), re.MULTILINE
+            r"(?m)^\.TP\n(\d+)\n((?:(?!\.TP\n).*\n)*)", part_of(page, "EXIT STATUS")
         )
         found = {number: as_words(text) for number, text in statuses}
         plainly = [
-            (number, sentence(re.sub(r" [(].*[)][.]$", "", text))) for number, text in found.items()
+            (number, sentence(re.sub(r" [(].*[)][.]$", "", found[number]))) for number in found
         ]
+        wanted = [(number, sentence(words)) for number, words in statuses_of_help()]
+        self.expect("debvote.1: exit statuses", plainly, wanted)
+        faults = dict(faults_of_formats())
         self.expect(
-            "debvote.1: exit statuses",
-            plainly,
-            [(number, sentence(words)) for number, words in statuses_of_help()],
+            "docs/FORMATS.md: statuses with fault lines", [*faults], "3 4 5 6 7 8 10".split()
         )
-        faults = faults_of_formats()
-        self.expect(
-            "docs/FORMATS.md: statuses with fault lines",
-            [number for number, _ in faults],
-            "3 4 5 6 7 8 10".split(),
-        )
-        for number, words in faults:
-            self.expect(
-                f"debvote.1: fault lines of {number}",
-                [line for line in words if line not in found[number]],
-                [],
-            )
+        for number, words in faults.items():
+            missing = [line for line in words if line not in found[number]]
+            self.expect(f"debvote.1: fault lines of {number}", missing, [])
 
     def test_made_pages_and_completions(self):
         """The pages and completions that docs/make-manual makes are those that are here."""
         with tempfile.TemporaryDirectory() as folder:
             self.expect("docs/make-manual", output_of(ROOT / "docs" / "make-manual", folder), "")
-            files = sorted(
-                file.relative_to(folder)
-                for file in pathlib.Path(folder).rglob("*")
-                if file.is_file()
-            )
+            made = pathlib.Path(folder)
+            files = [file for file in made.rglob("*") if file.is_file()]
             self.expect("docs/make-manual: files", len(files), 8)
-            old = [
-                str(file)
-                for file in files
-                if (ROOT / file).read_text() != (pathlib.Path(folder) / file).read_text()
-            ]
-            self.expect(
-                "pages and completions that are not of today: run docs/make-manual", old, []
-            )
+            for file in files:
+                there = ROOT / file.relative_to(made)
+                is_of_today = there.read_text() == file.read_text()
+                self.expect(
+                    f"{there}: whether it is of today: run docs/make-manual", is_of_today, True
+                )
 
     @unittest.skipUnless(shutil.which("man"), "man is not installed")
     def test_warnings_of_man(self):
@@ -290,94 +218,61 @@ class PagesTest(expecting.Expecting):
         try_warnings(self.expect, ["groff", "-man", "-ww", "-z"])
 
 
+@functools.cache
+def completed():
+    """The options of each command of debvote, and of two of debvote-election, whose files are made for all alike."""
+    own, made = options_by_command(), options_of_election()
+    return [
+        *(("debvote", command, own[command]) for command in own.keys() - {"", "help"}),
+        *(("debvote-election", command, made[command]) for command in ("call", "publish")),
+    ]
+
+
 class CompletionsTest(expecting.Expecting):
     def test_bash(self):
         """What bash offers for the last of some words."""
+        own, elections = options_by_command(), options_of_election()
+        commands = [command for command in own if command]
         for program, command, wanted in [
-            *(
-                ("debvote", command, found)
-                for command, found in options_by_command().items()
-                if command not in ("", "help")
-            ),
-            *(
-                ("debvote-election", f"{command} -", found)
-                for command, found in options_of_election().items()
-            ),
-            ("debvote-election", "", [*options_of_election(), "--folder", "--help", "--version"]),
-            ("debvote", "help", [command for command in options_by_command() if command]),
-            (
-                "debvote",
-                "",
-                [
-                    *(command for command in options_by_command() if command),
-                    *options_by_command()[""],
-                ],
-            ),
-            ("debvote-publish", "-", options_in(output_of(sys.executable, PUBLISH, "--help"))),
+            *completed(),
+            ("debvote-election", "", [*elections, "--folder", "--help", "--version"]),
+            ("debvote", "help", commands),
+            ("debvote", "", [*commands, *own[""]]),
+            ("debvote-publish", "", options_in(output_of(sys.executable, PUBLISH, "--help"))),
         ]:
-            words = (
-                [program, command, ""]
-                if command.isalpha()
-                else [program, *(command.split() or [""])]
-            )
+            last = "-" if program == "debvote-publish" or command in elections else ""
+            words = [program, command, last] if command else [program, last]
             script = f"source {ROOT}/completions/bash/{program}; COMP_WORDS=({' '.join(map(repr, words))}); COMP_CWORD={len(words) - 1}; "
             script += f'_{program.replace("-", "_")}; printf "%s\\n" "${{COMPREPLY[@]}}"'
             found = output_of("bash", "--norc", "-c", script).split()
             self.expect(f"bash: {program} {command}", sorted(found), sorted(wanted))
 
-    def test_files_of_zsh_and_fish(self):
-        """The commands, and the options without one, as the file of zsh writes them; and the commands of fish, each with its words."""
-        commands = sorted(set(options_by_command()) - {""})
-        text = (ROOT / "completions" / "zsh" / "_debvote").read_text()
-        self.expect(
-            "zsh: the commands", sorted(re.findall(r"^    '(\w+):", text, re.MULTILINE)), commands
-        )
-        top = sorted(
-            set(re.findall(rf"'({OPTION})\[", "\n".join(re.findall(r"_arguments -C.*", text))))
-            | {"--help"}
-        )
-        self.expect("zsh: options without a command", top, sorted(options_by_command()[""]))
-        text = (ROOT / "completions" / "fish" / "debvote.fish").read_text()
-        self.expect(
-            "fish: the commands",
-            sorted(re.search(r"^set -l all (.*)$", text, re.MULTILINE)[1].split()),
-            commands,
-        )
-        self.expect(
-            "fish: each command is described", sorted(re.findall(r'-a (\w+) -d "', text)), commands
-        )
-
     @unittest.skipUnless(shutil.which("zsh"), "zsh is not installed")
-    def test_zsh_itself(self):
-        """The options of each command as zsh reads them."""
-        for program, options in (
-            ("debvote", options_by_command()),
-            ("debvote-election", options_of_election()),
-        ):
-            for command in options.keys() - {"", "help"}:
-                said = output_of(
-                    "zsh", "-f", "-c", ZSH % (command, ROOT / "completions" / "zsh" / f"_{program}")
-                )
-                self.expect(
-                    f"zsh: {program} {command}",
-                    sorted(re.findall(rf"^({OPTION})\[", said, re.MULTILINE)),
-                    sorted(options[command]),
-                )
+    def test_zsh(self):
+        """The options of commands as zsh reads them; the commands of debvote and its own options, as its file writes them."""
+        for program, command, wanted in completed():
+            script = ZSH % (command, ROOT / "completions" / "zsh" / f"_{program}")
+            found = re.findall(rf"(?m)^({OPTION})\[", output_of("zsh", "-f", "-c", script))
+            self.expect(f"zsh: {program} {command}", sorted(found), sorted(wanted))
+        text, own = (ROOT / "completions" / "zsh" / "_debvote").read_text(), options_by_command()
+        commands = re.findall(r"(?m)^    '(\w+):", text)
+        self.expect("zsh: the commands", sorted(["", *commands]), sorted(own))
+        [line] = re.findall(r"_arguments -C.*", text)
+        options = {*re.findall(rf"'({OPTION})\[", line), "--help"}
+        self.expect("zsh: options without a command", options, set(own[""]))
 
     @unittest.skipUnless(shutil.which("fish"), "fish is not installed")
-    def test_fish_itself(self):
-        """The options of each command as fish reads them."""
-        for program, options in (
-            ("debvote", options_by_command()),
-            ("debvote-election", options_of_election()),
-        ):
-            typed = {f"{command} --": options[command] for command in options.keys() - {"help"}}
-            typed |= {"": list(options)} if program == "debvote-election" else {}
-            for words, wanted in typed.items():
-                source = f"source {ROOT}/completions/fish/{program}.fish"
-                said = output_of("fish", "-N", "-c", f"{source}; complete -C '{program} {words}'")
-                self.expect(
-                    f"fish: {program} {words}",
-                    sorted(line.split("\t")[0] for line in said.splitlines()),
-                    sorted(wanted),
-                )
+    def test_fish(self):
+        """The options of commands, and the commands, as fish reads them, each described."""
+        rows = [(program, f"{command} --", wanted) for program, command, wanted in completed()]
+        rows.append(("debvote", "", [command for command in options_by_command() if command]))
+        rows.append(("debvote-election", "", options_of_election()))
+        for program, words, wanted in rows:
+            script = (
+                f"source {ROOT}/completions/fish/{program}.fish; complete -C '{program} {words}'"
+            )
+            lines = output_of("fish", "-N", "-c", script).splitlines()
+            found = [
+                name for name, _, described in (line.partition("\t") for line in lines) if described
+            ]
+            self.expect(f"fish: {program} {words}", sorted(found), sorted(wanted))

@@ -6,8 +6,6 @@ objdump, strip or msgfmt is not installed, nothing is tested.
 
 import gzip
 import hashlib
-import importlib.machinery
-import importlib.util
 import os
 import pathlib
 import re
@@ -18,7 +16,7 @@ import unittest
 
 import pytest
 
-from tests.support import expecting
+from tests.support import expecting, unproved
 from tests.support.program import PROGRAM, ROOT
 
 pytestmark = pytest.mark.proved
@@ -59,9 +57,8 @@ NOBODY = ["setpriv", "--reuid=65534", "--regid=65534", "--clear-groups", "--no-n
 
 
 def run(words, **how):
-    ended = subprocess.run(
-        list(map(str, words)), capture_output=True, text=True, timeout=600, **how
-    )
+    settings = {"capture_output": True, "text": True, "timeout": 600, **how}
+    ended = subprocess.run([*map(str, words)], **settings)
     return ended.stdout, ended.stderr, ended.returncode
 
 
@@ -85,7 +82,7 @@ def copy_to(folder, time, mask):
     program = folder / "crates" / "debvote" / "out" / "debvote"
     program.parent.mkdir()
     shutil.copyfile(PROGRAM, program)
-    note_proved(folder)
+    program.with_name("proved").write_text(unproved.checksums(folder))
     for file in folder.rglob("*"):
         os.utime(file, (time, time))
     for file in (program, folder / "packaging" / "deb", folder / "docs" / "make-claim"):
@@ -93,22 +90,17 @@ def copy_to(folder, time, mask):
     os.umask(before)
 
 
-def note_proved(folder):
-    """Writes what tests/build writes when the program and the sources of this folder are proved."""
-    note = folder / "crates" / "debvote" / "out" / "proved"
-    loader = importlib.machinery.SourceFileLoader("tests_build", str(ROOT / "tests" / "build"))
-    module = importlib.util.module_from_spec(importlib.util.spec_from_loader("tests_build", loader))
-    loader.exec_module(module)
-    note.write_text(module.checksums(folder))
+def files_of(sheet):
+    """The arguments for the poll and the ballots beside a sheet."""
+    return ["--poll", sheet.with_name("poll.toml"), "--ballots", sheet.with_name("ballots")]
 
 
 def build(expect, folder, to):
     """Builds the package of a copy, and returns the file."""
     # a copy has no commit
-    output, faults, status = run(
-        [folder / "packaging" / "deb", to], env={**os.environ, "SOURCE_DATE_EPOCH": "1700000000"}
-    )
-    expect("packaging/deb", (faults, status), ("", 0))
+    env = {**os.environ, "SOURCE_DATE_EPOCH": "1700000000"}
+    output, *others = run([folder / "packaging" / "deb", to], env=env)
+    expect("packaging/deb", others, ["", 0])
     return pathlib.Path(output.strip())
 
 
@@ -116,20 +108,18 @@ def build(expect, folder, to):
 class PackageTest(expecting.Expecting):
     @classmethod
     def setUpClass(cls):
-        scratch = pathlib.Path(
-            cls.enterClassContext(tempfile.TemporaryDirectory(prefix="debvote-package-"))
-        )
+        room = tempfile.TemporaryDirectory(prefix="debvote-package-")
+        cls.scratch = scratch = pathlib.Path(cls.enterClassContext(room))
         scratch.chmod(0o755)
         for room in ("one", "other", "tree", "public"):
             (scratch / room).mkdir()
         copy_to(scratch / "one", 1_600_000_000, 0o022)
         copy_to(scratch / "other", 1_500_000_000, 0o077)
-        cls.scratch, cls.tree, cls.public, cls.facts = (
-            scratch,
-            scratch / "tree",
-            scratch / "public",
-            [],
-        )
+        cls.tree, cls.public, cls.facts = scratch / "tree", scratch / "public", []
+        cls.doc = cls.tree / "usr" / "share" / "doc" / "debvote"
+        # where the programs run, and as whom
+        cls.nobody = NOBODY if os.geteuid() == 0 else []
+        cls.where = {"PATH": f"{cls.tree}/usr/bin:/usr/bin:/bin"}
         cls.package = build(cls.note, scratch / "one", scratch / "packages")
         cls.other = build(cls.note, scratch / "other", scratch / "others")
         run(["dpkg-deb", "-x", cls.package, scratch / "tree"])
@@ -155,194 +145,117 @@ class PackageTest(expecting.Expecting):
             ("out/proved", None, "nothing says that crates/debvote/out/debvote is proved"),
             ("out/debvote", None, "crates/debvote/out/debvote is not there"),
         ):
-            before = (crate / name).read_bytes()
+            file, to = crate / name, self.scratch / "none"
+            before = file.read_bytes()
             if change is None:
-                (crate / name).unlink()
+                file.unlink()
             else:
-                (crate / name).write_bytes(before + change)
-            _, faults, status = run(
-                [self.scratch / "one" / "packaging" / "deb", self.scratch / "none"]
-            )
-            self.expect(
-                said, (said in faults, status, os.listdir(self.scratch / "none")), (True, 1, [])
-            )
+                file.write_bytes(before + change)
+            _, faults, status = run([self.scratch / "one" / "packaging" / "deb", to])
+            self.expect(said, (said in faults, status, os.listdir(to)), (True, 1, []))
             if change is not None:
-                (crate / name).write_bytes(before)
+                file.write_bytes(before)
         self.expect("no folder", run([ROOT / "packaging" / "deb"])[2], 1)
 
     def test_content(self):
         """The contents of the package, and its own description."""
         listed = run(["dpkg-deb", "-c", self.package])[0].splitlines()
         modes = {line.split()[5].removeprefix("./"): line.split()[0] for line in listed}
-        wanted = [
-            f"usr/{folder}/{name}" for folder, names in WANTED.items() for name in names.split()
-        ]
-        found = {name: modes.get(name) for name in wanted}
-        self.expect(
-            "the files",
-            found,
-            {
-                name: "-rwxr-xr-x" if name.startswith("usr/bin/") else "-rw-r--r--"
-                for name in wanted
-            },
-        )
-        tools = {
-            name
-            for name in modes
-            if name.startswith("usr/share/debvote/") and not name.endswith("/")
+        names = [f"usr/{folder}/{name}" for folder in WANTED for name in WANTED[folder].split()]
+        wanted = {
+            name: "-rwxr-xr-x" if name.startswith("usr/bin/") else "-rw-r--r--" for name in names
         }
-        files = [
-            file.relative_to(ROOT / "python")
-            for file in (ROOT / "python").rglob("*")
-            if file.is_file()
-        ]
-        beside = {"usr/share/debvote/recount.py", "usr/share/debvote/READING-A-SHEET.md"}
+        self.expect("the files", {name: modes.get(name) for name in names}, wanted)
+        share = "usr/share/debvote/"
+        tools = {name for name in modes if name.startswith(share) and not name.endswith("/")}
+        beside = {f"{share}recount.py", f"{share}READING-A-SHEET.md"}
+        files = [file for file in (ROOT / "python").rglob("*") if file.is_file()]
         # translations are compiled
         packed = [file.with_suffix(".mo") if file.suffix == ".po" else file for file in files]
-        wanted = {
-            f"usr/share/debvote/{file}" for file in packed if "__pycache__" not in file.parts
-        } | beside
+        packed = [file for file in packed if "__pycache__" not in file.parts]
+        wanted = {f"{share}{file.relative_to(ROOT / 'python')}" for file in packed} | beside
         self.expect("what the programs in Python are made of, and nothing else", tools, wanted)
         self.expect("the owner", {line.split()[1] for line in listed}, {"root/root"})
         version = run([PROGRAM, "--version"])[0].strip().removeprefix("debvote ")
         self.expect("the name", self.package.name, f"debvote_{version}_amd64.deb")
-        fields = run(
-            ["dpkg-deb", "-f", self.package, "Version", "Depends", "Recommends", "Suggests"]
-        )[0]
-        newest = max(
-            tuple(map(int, found.split(".")))
-            for found in re.findall(r"GLIBC_([\d.]+)", run(["objdump", "-p", PROGRAM])[0])
-        )
-        libc = f"libc6 (>= {'.'.join(map(str, newest))})"
-        needs = f"Depends: {libc}, python3 (>= 3.11), python3-jinja2\nRecommends: gpg, gpgv, python3-cryptography\nSuggests: graphviz\n"
+        asked = ["Version", "Depends", "Recommends", "Suggests"]
+        fields = run(["dpkg-deb", "-f", self.package, *asked])[0]
+        named = re.findall(r"GLIBC_([\d.]+)", run(["objdump", "-p", PROGRAM])[0])
+        newest = max(named, key=lambda found: [*map(int, found.split("."))])
+        needs = f"Depends: libc6 (>= {newest}), python3 (>= 3.11), python3-jinja2\nRecommends: gpg, gpgv, python3-cryptography\nSuggests: graphviz\n"
         self.expect("the fields", fields, f"Version: {version}\n{needs}")
-        sums = (self.package.parent / "SHA256SUMS").read_text()
-        self.expect(
-            "the sum",
-            sums,
-            f"{hashlib.sha256(self.package.read_bytes()).hexdigest()}  {self.package.name}\n",
-        )
+        digest = hashlib.sha256(self.package.read_bytes()).hexdigest()
+        sums = self.package.with_name("SHA256SUMS").read_text()
+        self.expect("the sum", sums, f"{digest}  {self.package.name}\n")
         # dpkg runs these: they compile the Python, and remove what they have compiled
         run(["dpkg-deb", "-e", self.package, self.scratch / "control"])
         for name in ("postinst", "prerm"):
             file = self.scratch / "control" / name
-            self.expect(
-                name,
-                (file.read_text(), oct(file.stat().st_mode)[-3:]),
-                ((ROOT / "packaging" / name).read_text(), "755"),
-            )
+            found = file.read_text(), oct(file.stat().st_mode)[-3:]
+            self.expect(name, found, ((ROOT / "packaging" / name).read_text(), "755"))
 
     def test_unpacked(self):
         """The unpacked program runs, as a user without rights, and answers as the one that was packed."""
-        nobody = NOBODY if os.geteuid() == 0 else []
         program = self.tree / "usr" / "bin" / "debvote"
-        examples = self.tree / "usr" / "share" / "doc" / "debvote" / "examples"
-        where = {"PATH": f"{self.tree}/usr/bin:/usr/bin:/bin"}
-        self.expect(
-            "--version",
-            run([*nobody, program, "--version"], env=where),
-            run([PROGRAM, "--version"]),
-        )
+        found = run([*self.nobody, program, "--version"], env=self.where)
+        self.expect("--version", found, run([PROGRAM, "--version"]))
         self.expect("its symbols", "no symbols" in run(["objdump", "-t", program])[0], True)
-        codes = [
+        one, other = (
             run(["objdump", "-s", "-j", ".text", file])[0].splitlines()[3:]
             for file in (program, PROGRAM)
-        ]
-        self.expect(
-            "its code is the one that was packed",
-            (codes[0] == codes[1], len(codes[0]) > 0),
-            (True, True),
         )
-        for sheet in sorted(examples.glob("*/sheet")):
-            files = ["--poll", sheet.parent / "poll.toml", "--ballots", sheet.parent / "ballots"]
-            answer = run([*nobody, program, "count", *files], env=where)
-            self.expect(
-                f"count {sheet.parent.name}",
-                answer,
-                (sheet.read_text(), "", 1 if "\nTie: " in sheet.read_text() else 0),
-            )
-        sheet = examples / "plain_win" / "sheet"
-        files = ["--poll", sheet.parent / "poll.toml", "--ballots", sheet.parent / "ballots"]
-        with open(sheet.parent / "ballots") as ballots:
-            answer = run(
-                [*nobody, program, "count", *files[:3], "/dev/stdin"], stdin=ballots, env=where
-            )
+        self.expect("its code is the one that was packed", (one == other, bool(one)), (True, True))
+        for sheet in sorted((self.doc / "examples").glob("*/sheet")):
+            text = sheet.read_text()
+            found = run([*self.nobody, program, "count", *files_of(sheet)], env=self.where)
+            wanted = text, "", int("\nTie: " in text)
+            self.expect(f"count {sheet.parent.name}", found, wanted)
+        sheet = self.doc / "examples" / "plain_win" / "sheet"
+        words = [*self.nobody, program, "count", *files_of(sheet)[:3], "/dev/stdin"]
+        with open(sheet.with_name("ballots")) as ballots:
+            answer = run(words, stdin=ballots, env=self.where)
         self.expect("ballots from /dev/stdin", answer, (sheet.read_text(), "", 0))
 
     @unittest.skipUnless(os.path.exists("/usr/bin/python3"), "there is no /usr/bin/python3")
     def test_unpacked_python(self):
         """The same of the programs in Python."""
-        nobody = NOBODY if os.geteuid() == 0 else []
-        program = self.tree / "usr" / "bin" / "debvote"
-        sheet = self.tree / "usr" / "share" / "doc" / "debvote" / "examples" / "plain_win" / "sheet"
-        files = ["--poll", sheet.parent / "poll.toml", "--ballots", sheet.parent / "ballots"]
-        where = {"PATH": f"{self.tree}/usr/bin:/usr/bin:/bin"}
-        output, faults, status = run(
-            [*nobody, program.with_name("debvote-publish"), *files, self.public / "result"],
-            env=where,
-        )
+        sheet = self.doc / "examples" / "plain_win" / "sheet"
+        files, programs = files_of(sheet), self.tree / "usr" / "bin"
+        publish = [*self.nobody, programs / "debvote-publish"]
+        output, _, status = run([*publish, *files, self.public / "result"], env=self.where)
         self.expect("debvote-publish", (output, status), ("Winner: 1 Brest\nverified\n", 0))
-        self.expect(
-            "what it has published",
-            (self.public / "result" / "sheet.txt").read_text(),
-            sheet.read_text(),
-        )
-        recount = (self.public / "result" / "recount.py").read_bytes()
-        self.expect(
-            "the second count beside it", recount, (ROOT / "tests" / "reference.py").read_bytes()
-        )
+        for name, beside in (("sheet.txt", sheet), ("recount.py", ROOT / "tests" / "reference.py")):
+            made = (self.public / "result" / name).read_bytes()
+            self.expect(f"the {name} that it has published", made, beside.read_bytes())
         german = ["--language", "de", *files]
+        run([*publish, *german, self.public / "german"], env=self.where)
         run(
-            [*nobody, program.with_name("debvote-publish"), *german, self.public / "german"],
-            env=where,
+            [ROOT / "bin" / "debvote-publish", *german, self.public / "of-checkout"], env=self.where
         )
-        run([ROOT / "bin" / "debvote-publish", *german, self.public / "of-checkout"], env=where)
-        pages = [
+        one, other = (
             (self.public / name / "index.html").read_bytes() for name in ("german", "of-checkout")
-        ]
-        self.expect(
-            "the translations, compiled and not",
-            (pages[0] == pages[1], b'<html lang="de">' in pages[0]),
-            (True, True),
         )
-        helped = run([*nobody, program.with_name("debvote-election"), "--help"], env=where)
-        self.expect(
-            "debvote-election --help",
-            helped,
-            run([ROOT / "bin" / "debvote-election", "--help"], env=where),
-        )
-        self.expect(
-            "what its help says", ("usage: debvote-election" in helped[0], helped[2]), (True, 0)
-        )
+        is_german = b'<html lang="de">' in one
+        self.expect("the translations, compiled and not", (one == other, is_german), (True, True))
+        helped = run([*self.nobody, programs / "debvote-election", "--help"], env=self.where)
+        wanted = run([ROOT / "bin" / "debvote-election", "--help"], env=self.where)
+        self.expect("debvote-election --help", helped, wanted)
+        said = "usage: debvote-election" in helped[0], helped[2]
+        self.expect("what its help says", said, (True, 0))
 
     def test_documents(self):
         """The compressed files can be read, and the changelog names the version."""
         version = run([PROGRAM, "--version"])[0].split()[1]
-        log = gzip.decompress(
-            (self.tree / "usr/share/doc/debvote/changelog.gz").read_bytes()
-        ).decode()
-        self.expect(
-            "the changelog", log.splitlines()[0], f"debvote ({version}) unstable; urgency=medium"
-        )
+        log = gzip.decompress((self.doc / "changelog.gz").read_bytes()).decode().splitlines()[0]
+        self.expect("the changelog", log, f"debvote ({version}) unstable; urgency=medium")
         page = gzip.decompress((self.tree / "usr/share/man/man1/debvote.1.gz").read_bytes())
         self.expect("the manual page", page, (ROOT / "man" / "debvote.1").read_bytes())
-        self.expect(
-            "what is said of the licence",
-            "No licence has been chosen"
-            in (self.tree / "usr/share/doc/debvote/copyright").read_text(),
-            True,
-        )
+        said = "No licence has been chosen" in (self.doc / "copyright").read_text()
+        self.expect("what is said of the licence", said, True)
 
     @unittest.skipUnless(shutil.which("lintian"), "lintian is not installed")
     def test_lintian(self):
-        found = run(
-            [
-                "lintian",
-                *(["--allow-root"] if os.geteuid() == 0 else []),
-                "--fail-on",
-                "error",
-                self.package,
-            ]
-        )
+        as_root = ["--allow-root"] * (os.geteuid() == 0)
+        found = run(["lintian", *as_root, "--fail-on", "error", self.package])
         print(found[0], end="")
         self.expect("errors of lintian", found[2], 0)

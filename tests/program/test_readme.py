@@ -45,7 +45,7 @@ SECONDS = 600
 OUTPUT = {"stdout": subprocess.PIPE, "stderr": subprocess.STDOUT, "text": True, "timeout": SECONDS}
 
 
-def checkout_in(folder: pathlib.Path) -> pathlib.Path:
+def checkout_in(folder):
     """A copy of what the commands read, with its times."""
     copy = folder / "checkout"
     for name in FOLDERS.split():
@@ -57,20 +57,20 @@ def checkout_in(folder: pathlib.Path) -> pathlib.Path:
 
 
 class Commands(expecting.Expecting):
-    def setUp(self) -> None:
+    def setUp(self):
         super().setUp()
         room = tempfile.TemporaryDirectory()
         self.addCleanup(room.cleanup)
         self.room = pathlib.Path(room.name)
         self.copy = checkout_in(self.room)
 
-    def run_in_copy(self, command: str, path: str) -> tuple[str, int]:
+    def run_in_copy(self, command, path):
         ended = subprocess.run(
             ["/bin/bash", "-c", command], cwd=self.copy, env={"PATH": path}, **OUTPUT
         )
         return ended.stdout, ended.returncode
 
-    def test_blocks(self) -> None:
+    def test_blocks(self):
         """Each command prints what README says. What it writes goes to a folder of this test."""
         subprocess.run(
             [sys.executable, "-c", KEEP, PROGRAM], cwd=self.copy, check=True, timeout=SECONDS
@@ -98,7 +98,7 @@ class Commands(expecting.Expecting):
             f"{words}, without a program", ("make try makes one" in said, status), (True, 2)
         )
 
-    def test_without_kit(self) -> None:
+    def test_without_kit(self):
         """One line says what is missing; make adds one of its own."""
         tools = self.room / "tools"
         tools.mkdir()
@@ -109,7 +109,7 @@ class Commands(expecting.Expecting):
             lines = [line for line in said.splitlines() if not line.startswith("make: ")]
             self.expect(f"{command}, without rt", (lines, status != 0), ([NO_KIT], True))
 
-    def test_tools_without_kit(self) -> None:
+    def test_tools_without_kit(self):
         """So do the programs of the tests that need the kit, and that no command of README runs."""
         for words in OF_TESTS:
             ended = subprocess.run(words.split(), cwd=ROOT, env={"PATH": str(self.room)}, **OUTPUT)
@@ -117,7 +117,7 @@ class Commands(expecting.Expecting):
                 f"{words}, without rt", (ended.stdout, ended.returncode), (f"{NO_KIT}\n", 1)
             )
 
-    def test_without_packages(self) -> None:
+    def test_without_packages(self):
         """The programs in Python say which package is missing, and do nothing."""
         new, example = self.room / "result", ROOT / "examples" / "plain_win"
         publish = [
@@ -154,7 +154,7 @@ class Commands(expecting.Expecting):
                 (wanted, 127, False),
             )
 
-    def test_length_and_order(self) -> None:
+    def test_length_and_order(self):
         """At most 60 lines and 500 words; the first block of sh is the full check."""
         text = README.read_text()
         self.expect(
@@ -174,7 +174,7 @@ class Commands(expecting.Expecting):
 
 @at_browser.NEEDS_BROWSER
 class Picture(unittest.TestCase):
-    def test_picture(self) -> None:
+    def test_picture(self):
         """The script makes a picture of the size of that which README shows; letters look otherwise where the fonts do."""
         with tempfile.TemporaryDirectory() as folder:
             made = pathlib.Path(folder, "result.png")

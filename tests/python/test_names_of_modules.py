@@ -50,7 +50,7 @@ def names() -> set[str]:
 
 
 class NamesTest(unittest.TestCase):
-    def test_modules_of_the_system_with_the_same_names(self) -> None:
+    def test_modules_of_the_system_with_the_same_names(self):
         others = pathlib.Path(
             self.enterContext(tempfile.TemporaryDirectory(prefix="debvote-names-"))
         )

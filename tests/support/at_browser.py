@@ -122,7 +122,7 @@ class Browser:
     pages.
     """
 
-    def __init__(self) -> None:
+    def __init__(self):
         self.numbers = itertools.count(1)
         # those of each window, by its session
         self.faults: dict[str | None, list[str]] = collections.defaultdict(list)
@@ -150,7 +150,7 @@ class Browser:
         self.rest = b""
         atexit.register(self.end)
 
-    def end(self) -> None:
+    def end(self):
         os.close(self.to_browser)  # it ends if nobody speaks to it
         self.process.wait(60)
         self.answers.close()
@@ -199,7 +199,7 @@ browser = functools.cache(Browser)
 class Window:
     """A window with one page, and a profile of its own. It is closed with `with`."""
 
-    def __init__(self, width: int, height: int) -> None:
+    def __init__(self, width: int, height: int):
         self.browser = browser()
         self.session: str | None = None
         self.context = self.tell("Target.createBrowserContext")["browserContextId"]
@@ -216,7 +216,7 @@ class Window:
     def __enter__(self) -> "Window":
         return self
 
-    def __exit__(self, *_: object) -> None:
+    def __exit__(self, *_: object):
         self.session = None
         self.tell("Target.disposeBrowserContext", browserContextId=self.context)
 
@@ -224,7 +224,7 @@ class Window:
     def faults(self) -> list[str]:
         return self.browser.faults[self.session]
 
-    def resize(self, width: int, height: int) -> None:
+    def resize(self, width: int, height: int):
         self.tell(
             "Emulation.setDeviceMetricsOverride",
             width=width,
@@ -233,7 +233,7 @@ class Window:
             mobile=False,
         )
 
-    def show(self, *, is_dark: bool = False, on_paper: bool = False) -> None:
+    def show(self, *, is_dark: bool = False, on_paper: bool = False):
         """From now on pages are shown in a light or in a dark scheme, or as they are printed."""
         scheme = [{"name": "prefers-color-scheme", "value": "dark" if is_dark else "light"}]
         self.tell("Emulation.setEmulatedMedia", media="print" if on_paper else "", features=scheme)
@@ -250,14 +250,14 @@ class Window:
         yield
         self.tell("Page.removeScriptToEvaluateOnNewDocument", identifier=number)
 
-    def open(self, page: pathlib.Path, place: str = "") -> None:
+    def open(self, page: pathlib.Path, place: str = ""):
         """Opens a page, at a place of it that begins with #."""
         self.tell("Page.navigate", url=page.as_uri() + place)
         self.until(
             f"document.readyState === 'complete' && location.href.startsWith({json.dumps(page.as_uri())})"
         )
 
-    def open_anew(self, page: pathlib.Path, place: str) -> None:
+    def open_anew(self, page: pathlib.Path, place: str):
         """Opens a page at a place of it, as somebody who comes from elsewhere."""
         self.tell("Page.navigate", url="about:blank")
         self.until("location.href === 'about:blank'")
@@ -272,7 +272,7 @@ class Window:
             raise RuntimeError(f"{script}: {found['exceptionDetails']}")
         return found["result"].get("value")
 
-    def until(self, script: str) -> None:
+    def until(self, script: str):
         """Waits until a script returns true, for two minutes at most."""
         end = "performance.now() > end ? done(false) : setTimeout(look, 10)"
         look = f"const end = performance.now() + 120000; const look = () => ({script}) ? done(true) : {end}; look();"
@@ -284,7 +284,7 @@ class Window:
         if not is_true:
             raise AssertionError(f"it does not become true: {script}")
 
-    def press(self, key: str, shift: bool = False, control: bool = False) -> None:
+    def press(self, key: str, shift: bool = False, control: bool = False):
         code, text = KEYS[key]
         name = f"Digit{key}" if key.isdigit() else {" ": "Space"}.get(key, key)
         known = {
@@ -298,7 +298,7 @@ class Window:
         )
         self.tell("Input.dispatchKeyEvent", type="keyUp", **known)
 
-    def type(self, text: str) -> None:
+    def type(self, text: str):
         self.tell("Input.insertText", text=text)
 
     def broken_words(self, nodes: str) -> list[str]:

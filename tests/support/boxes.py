@@ -33,7 +33,7 @@ def text_of(data: bytes) -> str:
     return " ".join(text.decode().split())
 
 
-def visit(window: Window, address: str) -> None:
+def visit(window: Window, address: str):
     """Opens an address as somebody who comes from elsewhere."""
     for url, is_open in (
         ("about:blank", "location.href === 'about:blank'"),
@@ -65,14 +65,14 @@ class BoxElectionTest(elections.ElectionTest):
     # by how many seconds the clocks of the devices are ahead
     devices_off = 0
 
-    def setUp(self) -> None:
+    def setUp(self):
         super().setUp()
         self.settings = clock_of_php(self.scratch)
         self.begin_host("web")
         self.numbers = itertools.count(1)
         self.bodies: dict[int, bytes] = {}
 
-    def begin_host(self, folder: str) -> None:
+    def begin_host(self, folder: str):
         self.web = self.scratch / folder
         self.web.mkdir()
         self.host = self.enterContext(Host(self.web, *self.settings, workers=self.workers))
@@ -96,7 +96,7 @@ class BoxElectionTest(elections.ElectionTest):
         """That of the poll."""
         return self.of_this_vote(elections.ANY_MARK.encode()).decode()
 
-    def upload(self) -> None:
+    def upload(self):
         shutil.copytree(self.folder / "call", self.web, dirs_exist_ok=True)
 
     def links(self) -> dict[str, str]:
@@ -201,7 +201,7 @@ class BoxElectionTest(elections.ElectionTest):
         assert answer.word == "received", answer
         return answer
 
-    def click_unopened(self, *names: str) -> None:
+    def click_unopened(self, *names: str):
         """The page of each of these electors sends what nobody can open."""
         for name in names:
             head = f"{self.page()} {self.proof_of(name)} {next(self.numbers):032x}"
@@ -229,15 +229,15 @@ class BoxElectionTest(elections.ElectionTest):
         self.write("members.csv", members.replace(f"{name}@club", f"{name}@new"))
         return self.done("roll", "--yes").output
 
-    def off(self, seconds: float) -> None:
+    def off(self, seconds: float):
         """From now on the clock of this computer stands so many seconds ahead."""
         self.set_clock(f"{now(seconds):%Y-%m-%dT%H:%M:%S+00:00}")
 
-    def host_off(self, seconds: int) -> None:
+    def host_off(self, seconds: int):
         """From now on the clock of the host is so many seconds ahead."""
         (self.scratch / HOST_OFF).write_text(str(seconds))
 
-    def later(self, seconds: int = 2) -> None:
+    def later(self, seconds: int = 2):
         """From now on all clocks are so many seconds further ahead, as those of the devices."""
         self.devices_off += seconds
         self.off(self.devices_off)
@@ -294,6 +294,6 @@ class BoxElectionTest(elections.ElectionTest):
         assert parts.pop() == b"", parts
         return [part + END for part in parts]
 
-    def keep(self, *records: bytes) -> None:
+    def keep(self, *records: bytes):
         """From now on it has these records alone."""
         self.file().write_bytes(FIRST + b"".join(records))

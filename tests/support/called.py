@@ -16,9 +16,10 @@ from unittest import mock
 from debvote_tools.book import queries
 from debvote_tools.book.book import Book, open_book
 from debvote_tools.commands import command_line
+from debvote_tools.inbox.letter_lines import to_json
 
 from tests.support import elections
-from tests.support.letters import letter, mailbox
+from tests.support.letters import letter, mailbox, read
 from tests.support.terminal import Terminal
 
 LAKE = "At the lake, then In the town hall, then Further discussion, then Sell the house and meet there"
@@ -28,7 +29,7 @@ HALL = "In the town hall, then At the lake, then Further discussion, then Sell t
 class CalledTest(elections.ElectionTest):
     """A test with a called election."""
 
-    def setUp(self) -> None:
+    def setUp(self):
         super().setUp()
         # programs at a terminal and acts of the test itself write their notes where the other runs
         # do
@@ -59,7 +60,7 @@ class CalledTest(elections.ElectionTest):
         name: str,
         detail: dict[str, Any] | None = None,
         sealed: dict[str, bytes] | None = None,
-    ) -> None:
+    ):
         with self.book.act(name, detail or {}) as act:
             for key, data in (sealed or {}).items():
                 act.insert("sealed", name=key, data=data)
@@ -70,6 +71,10 @@ class CalledTest(elections.ElectionTest):
         """
         words = "SELECT line FROM envelope WHERE late = ? AND envelope NOT IN (SELECT envelope FROM struck) ORDER BY envelope"
         return [line.decode("utf-8", "replace") for line, in self.book.rows(words, int(is_late))]
+
+    def assert_lines(self, *lines: str):
+        """These lines are counted, and no others."""
+        self.assertEqual(self.lines(), [*lines])
 
     def late_lines(self) -> list[str]:
         return self.lines(is_late=True)
@@ -92,10 +97,18 @@ class CalledTest(elections.ElectionTest):
         typed = shlex.split(str(words[0])) if len(words) == 1 else words
         return super().election(*typed, **how)
 
+    def text(self, name: str) -> str:
+        """A file of the folder on one line."""
+        return " ".join(self.read(name).decode().split())
+
     def told(self, *words: object, **how: Any) -> str:
         ended = self.election(*words, **how)
         self.assertEqual((ended.status, ended.faults), (0, ""), ended)
         return ended.output
+
+    def numbers(self) -> dict[str, Any]:
+        """What `status` tells a program."""
+        return dict(json.loads(self.told("status", "--json")))
 
     def tells(self, typed: str, *parts: str, **how: Any) -> str:
         """What a command tells, which has these parts."""
@@ -108,7 +121,22 @@ class CalledTest(elections.ElectionTest):
         """What `add` tells of lines from a pipe, which has these parts."""
         return self.tells(f"add {words}", *parts, given=given)
 
-    def close_book(self, lines: int = 0) -> None:
+    def enter_letter(self, act_name: str):
+        """An act of this name enters a ballot of cleo, which came in a letter."""
+        with self.book.act(act_name) as act:
+            source = queries.keep_source(act, "inbox", b"letter")
+            [came] = read(letter("cleo", "cleo 1,2,3,4"))
+            number = act.insert("letter", source=source, identity="1", known=to_json(came))
+            line = queries.NewEnvelope(b"cleo 1,2,3,4", "", source, number)
+            queries.add_envelopes(act, [line], [self.elector("cleo")], is_late=False)
+            queries.decide(act, number, queries.ENTERED)
+
+    def assert_state(self, state: str):
+        """The last act has put that letter into this state."""
+        query = "SELECT letter, state FROM letter_state WHERE act = ?"
+        self.assertEqual(self.rows(query, self.last_act()), [(1, state)])
+
+    def close_book(self, lines: int = 0):
         """Closes the vote without the command, so at any time."""
         self.act("close", {"lines": lines, "checksum": "", "early": False})
 
@@ -116,7 +144,7 @@ class CalledTest(elections.ElectionTest):
         """What a desk tells of lines that are typed there."""
         return self.told("desk", given="".join(f"{line}\n" for line in lines))
 
-    def assert_stops(self, ended: elections.Ended, before: int, status: int, *parts: str) -> None:
+    def assert_stops(self, ended: elections.Ended, before: int, status: int, *parts: str):
         """There is one fault, with these parts, and no act."""
         self.assert_fault(ended, status, *parts)
         self.assertEqual(self.last_act(), before)
@@ -140,7 +168,7 @@ class LettersTest(CalledTest):
 
     now = "2026-11-25T09:00:00+00:00"
 
-    def setUp(self) -> None:
+    def setUp(self):
         super().setUp()
         self.set_clock(self.now)
 
@@ -197,12 +225,12 @@ class LettersTest(CalledTest):
         """What `add` tells of a letter without a ballot."""
         return self.add(letter(name, "hello", number=number))
 
-    def assert_waiting(self, count: int, *stopping: int) -> None:
+    def assert_waiting(self, count: int, *stopping: int):
         """So many letters wait, and these would stop a close, or a count after it."""
         numbers = self.numbers()
         self.assertEqual((numbers["waiting"], numbers["stopping"]), (count, [*stopping]))
 
-    def change_roll(self, *changes: str) -> None:
+    def change_roll(self, *changes: str):
         """Reads a list of members in which some words are others: before, after, before, .."""
         members = elections.members_of(self.names)
         for before, after in zip(changes[::2], changes[1::2], strict=True):
@@ -214,10 +242,6 @@ class LettersTest(CalledTest):
     def mark(self) -> str:
         """That of the poll, which everybody sees."""
         return hashlib.sha256(self.read("call/poll.toml")).hexdigest()[:16]
-
-    def numbers(self) -> dict[str, Any]:
-        """What `status` tells a program."""
-        return dict(json.loads(self.told("status", "--json")))
 
     def exported(self) -> tuple[str, str]:
         """What came in time, and what came late, as `export` writes it."""
@@ -244,9 +268,7 @@ class LettersTest(CalledTest):
                 command_line.main(elections.ELECTION.parent, list(words))
         return said.getvalue()
 
-    def overtaken(
-        self, module: object, name: str, other: Sequence[object], words: Sequence[str]
-    ) -> None:
+    def overtaken(self, module: object, name: str, other: Sequence[object], words: Sequence[str]):
         """Runs a command here; another runs after a step of it, which it may have made untrue."""
         is_first, step = [True], getattr(module, name)
 

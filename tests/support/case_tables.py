@@ -21,7 +21,6 @@ Without `args` the command runs on the files poll.toml and ballots, or only on p
 name of the last of them. A missing file is not there, a missing text is empty, and a missing status is 0.
 """
 
-import pathlib
 import tomllib
 from dataclasses import dataclass
 
@@ -45,7 +44,7 @@ class Row:
     swap: list[str] | None = None
     called: str | None = None
 
-    def names(self) -> tuple[str, str]:
+    def names(self):
         """The names of the poll and of the ballots."""
         return (
             (self.called or POLL, BALLOTS)
@@ -53,7 +52,7 @@ class Row:
             else (POLL, self.called or BALLOTS)
         )
 
-    def words(self) -> list[str]:
+    def words(self):
         if self.args is not None:
             return self.args
         poll, ballots = self.names()
@@ -64,7 +63,7 @@ class Row:
             *([] if self.ballots is None else ["--ballots", ballots]),
         ]
 
-    def swapped_poll(self) -> str | None:
+    def swapped_poll(self):
         """The poll with each text of `swap` that stands in it."""
         poll, pairs = self.poll, iter(self.swap or [])
         for old, new in zip(pairs, pairs):
@@ -72,14 +71,14 @@ class Row:
             poll = poll.replace(old, new, 1)
         return poll
 
-    def files(self) -> dict[str, bytes]:
+    def files(self):
         head = "" if self.about is None else f"# {self.about}\n"
         (poll, ballots), swapped = self.names(), self.swapped_poll()
         texts = {poll: swapped and head + swapped, ballots: self.ballots, SHEET: self.sheet}
         return {name: text.encode() for name, text in texts.items() if text is not None}
 
 
-def read_table(file: pathlib.Path) -> dict[str, Row]:
+def read_table(file):
     table = tomllib.loads(file.read_bytes().decode())
     given = {
         "command": table.pop("command"),
@@ -90,7 +89,7 @@ def read_table(file: pathlib.Path) -> dict[str, Row]:
     return {name: Row(**given | row) for name, row in table.items()}
 
 
-def written(text: str) -> str:
+def written(text):
     """The text as a TOML string: a literal of several lines, if no character has to be escaped."""
     start = "\n" if "\n" in text else ""
     if (
@@ -104,13 +103,13 @@ def written(text: str) -> str:
     return quotes + start + "".join(map(spelled, text)) + quotes
 
 
-def written_in_one_line(text: str) -> str:
+def written_in_one_line(text):
     if "'" not in text and '"' in text and text.isprintable():
         return f"'{text}'"
     return '"' + "".join(map(spelled, text)).replace("\n", "\\n") + '"'
 
 
-def spelled(sign: str) -> str:
+def spelled(sign):
     known = {"\\": "\\\\", '"': '\\"', "\r": "\\r", "\t": "\\t", "\n": "\n"}
     if sign in known:
         return known[sign]
@@ -123,7 +122,7 @@ def spelled(sign: str) -> str:
     )
 
 
-def rewrite(file: pathlib.Path, name: str, stdout: str, stderr: str, status: int) -> None:
+def rewrite(file, name, stdout, stderr, status):
     """Rewrites a table in which one case expects another answer; the comments at its top stay."""
     rows = read_table(file)
     rows[name].stdout, rows[name].stderr, rows[name].status = stdout, stderr, status
@@ -132,7 +131,7 @@ def rewrite(file: pathlib.Path, name: str, stdout: str, stderr: str, status: int
     write_table(file, rows, "".join(lines[:head]))
 
 
-def write_table(file: pathlib.Path, rows: dict[str, Row], comment: str = "") -> None:
+def write_table(file, rows, comment=""):
     """Writes a table of one command; the poll that most cases have is at its top, unless a case has none."""
     (command,) = {row.command for row in rows.values()}
     polls = [row.poll for row in rows.values()]

@@ -16,13 +16,13 @@ MODULES = {
 PROGRAMS = {"gpgv": "gpgv", "gpg": "gpg"}
 
 
-def demand_kit() -> None:
+def demand_kit():
     """Ends the program if the kit is missing."""
     if shutil.which("rt") is None:
         sys.exit("rt is not in PATH: it belongs to the Rattle kit, which README names")
 
 
-def missing() -> list[str]:
+def missing():
     """The packages that are not installed."""
     modules = [
         package for package, module in MODULES.items() if importlib.util.find_spec(module) is None
@@ -32,7 +32,7 @@ def missing() -> list[str]:
     ]
 
 
-def demand() -> None:
+def demand():
     """Installs what is missing, before anything is built; if it may not, it says what to type."""
     packages = missing()
     if not packages:

@@ -83,7 +83,7 @@ def function_of(goal: str) -> str:
     return goal.rpartition(" of ")[2]
 
 
-def record(edit: Edit, goals: Goals) -> None:
+def record(edit: Edit, goals: Goals):
     """Writes into the edit at which goals it is refused."""
     lines = edit.file.read_text().splitlines()
     kept = [line for line in lines if not line.startswith(REFUSED_AT)]
@@ -197,7 +197,7 @@ def changed_by(
 class Batch:
     """Edits of the bodies of different functions, and the texts that all of them make."""
 
-    def __init__(self, texts: dict[str, str]) -> None:
+    def __init__(self, texts: dict[str, str]):
         self.texts = texts
         # how the prover names the functions that each edit changes
         self.functions: dict[Edit, set[re.Pattern[str]]] = {}

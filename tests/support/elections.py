@@ -131,7 +131,7 @@ class ElectionTest(unittest.TestCase):
     is_for_everybody = False
     maxDiff = None
 
-    def setUp(self) -> None:
+    def setUp(self):
         self.scratch = pathlib.Path(tempfile.mkdtemp(prefix="debvote-election-"))
         self.addCleanup(shutil.rmtree, self.scratch, ignore_errors=True)
         self.state = self.scratch / "state"
@@ -155,7 +155,7 @@ class ElectionTest(unittest.TestCase):
             *words,
         )
 
-    def begin(self) -> None:
+    def begin(self):
         key = self.kind()
         if key not in TEMPLATES:
             TEMPLATES[key] = self.made()
@@ -180,7 +180,7 @@ class ElectionTest(unittest.TestCase):
             self.done("call", *self.call_words, cwd=place / "election")
         return place / "election"
 
-    def fill_in(self, folder: pathlib.Path) -> None:
+    def fill_in(self, folder: pathlib.Path):
         """Writes the poll and the members into the folder of a new election."""
         (folder / "poll.toml").write_text(self.poll)
         (folder / "members.csv").write_text(self.members or members_of(self.names))
@@ -208,7 +208,7 @@ class ElectionTest(unittest.TestCase):
         faults = faults if HAS_PICTURES else faults.replace(NO_PICTURE, "")
         return Ended(ended.stdout.decode("utf-8", "replace"), faults, ended.returncode)
 
-    def set_clock(self, time: str) -> None:
+    def set_clock(self, time: str):
         """From now on the programs find this time, which has its offset."""
         (self.scratch / "clock").write_text(time)
         self.clock = {
@@ -291,13 +291,13 @@ class ElectionTest(unittest.TestCase):
         files = (file for file in self.folder.rglob("*") if file.is_file())
         return {str(file.relative_to(self.folder)): file.read_bytes() for file in files}
 
-    def assert_fault(self, ended: Ended, status: int, *parts: str) -> None:
+    def assert_fault(self, ended: Ended, status: int, *parts: str):
         """The run ended with this status and one line on standard error, which has these parts."""
         self.assertEqual(ended.status, status, ended)
         self.assertEqual(len(ended.faults.splitlines()), 1, ended.faults)
         for part in parts:
             self.assertIn(part, ended.faults)
 
-    def refused(self, words: object, *parts: str, status: int = 9) -> None:
+    def refused(self, words: object, *parts: str, status: int = 9):
         """A command, as it is typed, ends with this status and one fault, which has these parts."""
         self.assert_fault(self.election(words), status, *parts)

@@ -6,17 +6,17 @@ import unittest
 class Expecting(unittest.TestCase):
     maxDiff = 2_000
 
-    def setUp(self) -> None:
+    def setUp(self):
         super().setUp()
         self.wrong: list[str] = []
         self.addCleanup(self.tell)
 
-    def expect(self, name: str, found: object, wanted: object) -> None:
+    def expect(self, name, found, wanted):
         try:
             self.assertEqual(found, wanted)
         except AssertionError as error:
             self.wrong.append(f"{name}: {error}")
 
-    def tell(self) -> None:
+    def tell(self):
         if self.wrong:
             self.fail("\n".join(self.wrong))

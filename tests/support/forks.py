@@ -165,19 +165,19 @@ def attached(child: int, tracer: Sequence[object]) -> Iterator[None]:
 class Compiled(jinja2.BytecodeCache):
     """Templates as they were compiled: for another language or package they are the same."""
 
-    def __init__(self) -> None:
+    def __init__(self):
         self.kept: dict[str, bytes] = {}
 
-    def load_bytecode(self, bucket: jinja2.bccache.Bucket) -> None:
+    def load_bytecode(self, bucket: jinja2.bccache.Bucket):
         if bucket.key in self.kept:
             bucket.bytecode_from_string(self.kept[bucket.key])
 
-    def dump_bytecode(self, bucket: jinja2.bccache.Bucket) -> None:
+    def dump_bytecode(self, bucket: jinja2.bccache.Bucket):
         self.kept[bucket.key] = bucket.bytecode_to_string()
 
 
 @functools.cache
-def read_ahead() -> None:
+def read_ahead():
     """Imports all modules, makes the schema of a book, and reads all templates in each language, so that no fork has to: it takes longer
     than most commands. It is done before the first fork, as some processes of the tests make none.
     """
@@ -231,7 +231,7 @@ def is_plain(words: Sequence[object], how: Mapping[str, object]) -> bool:
     )
 
 
-def become(words: Sequence[str], folder: pathlib.Path, env: Mapping[str, str]) -> None:
+def become(words: Sequence[str], folder: pathlib.Path, env: Mapping[str, str]):
     """In a fork that has its own terminal: it becomes a launcher with these words, and ends as that does."""
     if os.environ.get("DEBVOTE_FORKS") == "0":
         os.chdir(folder)
@@ -243,7 +243,7 @@ def become(words: Sequence[str], folder: pathlib.Path, env: Mapping[str, str]) -
 
 def in_child(
     main: Callable, words: Sequence[object], how: Mapping[str, object], streams: Sequence[int]
-) -> None:
+):
     """Runs the program in this process, and ends the process."""
     status = 70
     try:

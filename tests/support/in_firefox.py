@@ -43,7 +43,7 @@ SHORT, LONG = 126, 127
 class Socket:
     """The client of a WebSocket, as far as Firefox needs one."""
 
-    def __init__(self, port: int, path: str) -> None:
+    def __init__(self, port: int, path: str):
         self.stream = socket.create_connection(("127.0.0.1", port)).makefile("rwb")
         key = base64.b64encode(os.urandom(16)).decode()
         head = f"GET {path} HTTP/1.1\r\nHost: 127.0.0.1:{port}\r\nUpgrade: websocket\r\n"
@@ -55,7 +55,7 @@ class Socket:
         while self.stream.readline().strip():
             pass
 
-    def send(self, data: bytes, kind: int = TEXT) -> None:
+    def send(self, data: bytes, kind: int = TEXT):
         """Sends a frame; it has a mask, as each of a client must: Firefox reads none with one of zeros."""
         length, mask = len(data), os.urandom(4)
         masked = bytes(sign ^ mask[place % 4] for place, sign in enumerate(data))
@@ -89,7 +89,7 @@ class Socket:
 class Browser:
     """Firefox, which the windows of this process share."""
 
-    def __init__(self) -> None:
+    def __init__(self):
         self.numbers = itertools.count(1)
         self.faults: list[str] = []
         self.room = tempfile.mkdtemp(prefix="debvote-firefox-")
@@ -107,7 +107,7 @@ class Browser:
         self.tell("session.new", capabilities={})
         self.tell("session.subscribe", events=["log.entryAdded"])
 
-    def end(self) -> None:
+    def end(self):
         self.process.kill()
         self.process.wait(60)
         shutil.rmtree(self.room, ignore_errors=True)
@@ -135,7 +135,7 @@ browser = functools.cache(Browser)
 class Window(at_browser.Window):
     """A window with one page, and a profile of its own. It is closed with `with`."""
 
-    def __init__(self, width: int, height: int) -> None:
+    def __init__(self, width: int, height: int):
         self.firefox = browser()
         self.firefox.faults.clear()
         self.profile = self.firefox.tell("browser.createUserContext")["userContext"]
@@ -143,14 +143,14 @@ class Window(at_browser.Window):
         self.page = page["context"]
         self.resize(width, height)
 
-    def __exit__(self, *_: object) -> None:
+    def __exit__(self, *_: object):
         self.firefox.tell("browser.removeUserContext", userContext=self.profile)
 
     @property
     def faults(self) -> list[str]:
         return self.firefox.faults
 
-    def resize(self, width: int, height: int) -> None:
+    def resize(self, width: int, height: int):
         size = {"width": width, "height": height}
         self.firefox.tell("browsingContext.setViewport", context=self.page, viewport=size)
 
@@ -161,14 +161,14 @@ class Window(at_browser.Window):
         yield
         self.firefox.tell("script.removePreloadScript", script=number)
 
-    def open(self, page: pathlib.Path, place: str = "") -> None:
+    def open(self, page: pathlib.Path, place: str = ""):
         self.open_address(page.as_uri() + place)
 
-    def open_anew(self, page: pathlib.Path, place: str) -> None:
+    def open_anew(self, page: pathlib.Path, place: str):
         self.open_address("about:blank")
         self.open(page, place)
 
-    def open_address(self, address: str) -> None:
+    def open_address(self, address: str):
         told = {"context": self.page, "url": address, "wait": "complete"}
         self.firefox.tell("browsingContext.navigate", **told)
 
@@ -182,21 +182,21 @@ class Window(at_browser.Window):
             raise RuntimeError(f"{script}: {found['exceptionDetails']['text']}")
         return json.loads(found["result"]["value"])
 
-    def press(self, key: str, shift: bool = False, control: bool = False) -> None:
+    def press(self, key: str, shift: bool = False, control: bool = False):
         held = [name for name, is_held in (("Shift", shift), ("Control", control)) if is_held]
         values = [KEYS.get(name, name) for name in (*held, key)]
         acts = [{"type": "keyDown", "value": value} for value in values]
         acts += [{"type": "keyUp", "value": value} for value in reversed(values)]
         self.act({"type": "key", "id": "keys", "actions": acts})
 
-    def type(self, text: str) -> None:
+    def type(self, text: str):
         acts = [{"type": kind, "value": sign} for sign in text for kind in ("keyDown", "keyUp")]
         self.act({"type": "key", "id": "keys", "actions": acts})
 
-    def act(self, source: dict[str, object]) -> None:
+    def act(self, source: dict[str, object]):
         self.firefox.tell("input.performActions", context=self.page, actions=[source])
 
-    def choose(self, field: str, *files: pathlib.Path) -> None:
+    def choose(self, field: str, *files: pathlib.Path):
         """Chooses files from the disk in a field, which a script returns."""
         told = {"expression": field, "target": {"context": self.page}, "awaitPromise": False}
         node = self.firefox.tell("script.evaluate", **told)["result"]["sharedId"]

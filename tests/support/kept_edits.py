@@ -106,7 +106,7 @@ class Function(typing.NamedTuple):
 class Outline:
     """The files of a crate: its functions, by their names, and a sum of all but these."""
 
-    def __init__(self, files: Files, is_any_cited: bool) -> None:
+    def __init__(self, files: Files, is_any_cited: bool):
         self.functions: dict[str, set[Function]] = collections.defaultdict(set)
         bodies = [] if is_any_cited else [*bodies_in(files)]
         written = proofs_of([body for *_, body in bodies], files)
@@ -182,7 +182,7 @@ def bodies_in(files: Files) -> Iterator[tuple[str, str, edits.Body]]:
 class Kept:
     """What is kept of the edits of crates, which are copies that nobody changes."""
 
-    def __init__(self, rt: typing.Any, crates: list[typing.Any], from_nothing: bool) -> None:
+    def __init__(self, rt: typing.Any, crates: list[typing.Any], from_nothing: bool):
         self.rt = rt
         self.store = rt.Kept(crates, from_nothing)
         files = {crate.name: files_of(pathlib.Path(crate.folder)) for crate in crates}
@@ -209,7 +209,7 @@ class Kept:
         found = (self.store.tried(name) for name in self.names_of(crate, edit))
         return next((said for kind, said in filter(None, found) if kind == self.rt.REFUSED), None)
 
-    def forget(self, crate: typing.Any, edit: edits.Edit) -> None:
+    def forget(self, crate: typing.Any, edit: edits.Edit):
         """Drops what was kept of an edit that is not refused by now."""
         for name in self.names_of(crate, edit):
             self.store.drop(f"{self.store.at}/edits/{name}")
@@ -224,7 +224,7 @@ class Kept:
             names = [name_of(base, changed | other) for other in more] + names
         return names
 
-    def keep(self, crate: typing.Any, edit: edits.Edit, said: str, output: str | None) -> None:
+    def keep(self, crate: typing.Any, edit: edits.Edit, said: str, output: str | None):
         """Keeps what was said of an edit that is refused, and that check, if it was of it alone."""
         base, outline = self.base(crate, edit), self.outlines[crate.name]
         changed = outline.changed_by(edit)

@@ -82,7 +82,7 @@ def marked_german() -> Iterator[None]:
     forget_german()
 
 
-def forget_german() -> None:
+def forget_german():
     """Forgets what this process has said in German: languages and templates keep some of it. No
     template is read again, which takes a while.
     """
@@ -96,7 +96,7 @@ def forget_german() -> None:
 class LanguageTest(elections.ElectionTest):
     """A test with its own folder, in which it makes its elections."""
 
-    def begin(self) -> None:
+    def begin(self):
         pass
 
     def program(self, name: str, *words: object, given: str = "", status: int = 0) -> str:
@@ -145,7 +145,7 @@ class LanguageTest(elections.ElectionTest):
         place = self.called(folder, language, codes=() if is_secret else None)
         because = ("--because", REASON)
 
-        def do(command: str, *more: object, given: str = "") -> None:
+        def do(command: str, *more: object, given: str = ""):
             if has_letters or not command.startswith("letters"):
                 self.election(folder, *command.split(), *more, given=given)
 

@@ -56,7 +56,7 @@ class DebvoteReader:
     poll = POLL
     known: dict[bytes, str | None] = {}
 
-    def __init__(self) -> None:
+    def __init__(self):
         self.runs = 0
 
     def answers(self, lines: Sequence[bytes]) -> Mapping[bytes, str | None]:

@@ -7,12 +7,11 @@
 import difflib
 import pathlib
 import sys
-from collections.abc import Iterable
 
 ROOT = pathlib.Path(__file__).resolve().parent.parent.parent
 
 
-def lines_of_crates() -> dict[str, str]:
+def lines_of_crates():
     """The lines of crates.txt by their crates, lowest first."""
     lines = [
         line.partition("#")[0].strip() for line in (ROOT / "crates.txt").read_text().splitlines()
@@ -20,12 +19,12 @@ def lines_of_crates() -> dict[str, str]:
     return {line.partition(":")[0].split()[0]: line for line in lines if line}
 
 
-def crates() -> list[str]:
+def crates():
     """The names of all crates, lowest first."""
     return list(lines_of_crates())
 
 
-def lines_below(*crates: str) -> dict[str, str]:
+def lines_below(*crates):
     """The lines of crates.txt for these crates and those that they use, directly or not, by crate."""
     lines = lines_of_crates()
     below: dict[str, str] = {}
@@ -38,7 +37,7 @@ def lines_below(*crates: str) -> dict[str, str]:
     return below
 
 
-def words_of_missing(kind: str, name: str, names: Iterable[str], listed_by: str) -> str:
+def words_of_missing(kind, name, names, listed_by):
     """What to say about a name that does not exist: names that are near or contain it, or else how to list all."""
     names = list(names)
     near = [known for known in names if name and name in known][:5] or difflib.get_close_matches(
@@ -48,7 +47,7 @@ def words_of_missing(kind: str, name: str, names: Iterable[str], listed_by: str)
     return f"{said}; near are {', '.join(near)}" if near else f"{said}; {listed_by} lists them"
 
 
-def main() -> int:
+def main():
     if len(sys.argv) != 3 or sys.argv[1] != "crate":
         print(__doc__.strip())
         return 2

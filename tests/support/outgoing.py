@@ -48,7 +48,7 @@ class OutTest(LettersTest):
     )
     now = TEN
 
-    def extend(self, until: str) -> None:
+    def extend(self, until: str):
         """Another end of the vote, in the zone of the first one."""
         self.done("call", "--until", until)
 
@@ -117,7 +117,7 @@ class MailServer:
     the connection is cut if it says so.
     """
 
-    def __init__(self, **how: object) -> None:
+    def __init__(self, **how: object):
         if Controller is None:
             raise unittest.SkipTest("aiosmtpd is not installed")
         self.taken, self.steps, self.logins = [], [], []
@@ -133,7 +133,7 @@ class MailServer:
         self.controller.start()
         self.name = f"127.0.0.1:{self.port}"
 
-    def stop(self) -> None:
+    def stop(self):
         if not self.is_stopped:
             self.is_stopped = True
             self.controller.stop()
@@ -195,7 +195,7 @@ class PlainServer:
         "letter": "250 OK",
     }
 
-    def __init__(self, answers: Mapping[str, str]) -> None:
+    def __init__(self, answers: Mapping[str, str]):
         self.answers = {**self.usual, **answers}
         self.socket = socket.create_server(("127.0.0.1", 0))
         self.port = self.socket.getsockname()[1]
@@ -205,16 +205,16 @@ class PlainServer:
         self.thread.start()
         return self
 
-    def __exit__(self, *_: object) -> None:
+    def __exit__(self, *_: object):
         self.socket.close()
 
-    def serve(self) -> None:
+    def serve(self):
         with contextlib.suppress(OSError):
             while True:
                 self.converse(self.socket.accept()[0])
 
-    def converse(self, connection: socket.socket) -> None:
-        def say(text: str) -> None:
+    def converse(self, connection: socket.socket):
+        def say(text: str):
             connection.sendall(f"{text}\r\n".encode())
 
         with connection, connection.makefile("rb") as lines:
@@ -231,7 +231,7 @@ class PlainServer:
 class SendTest(OutTest):
     """A test with a mail server."""
 
-    def setUp(self) -> None:
+    def setUp(self):
         super().setUp()
         self.server = self.mail_server()
 
@@ -260,7 +260,7 @@ class SendTest(OutTest):
         self.assertIn(said, ended.output)
         return ended
 
-    def assert_none_is_due(self, kind: str) -> None:
+    def assert_none_is_due(self, kind: str):
         before = self.server.addresses()
         self.assert_sent(
             kind, "There is no letter to send: the server has taken all that are due.\n"

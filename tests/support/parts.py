@@ -93,7 +93,7 @@ class Part:
         cwd: pathlib.Path = ROOT,
         counted: re.Pattern[str] = COUNT,
         **how: object,
-    ) -> None:
+    ):
         self.name = " ".join(words)
         self.counted = counted
         self.told = room / f"{re.sub(r'[^a-z0-9]+', '-', self.name).strip('-')}.told"
@@ -107,7 +107,7 @@ class Part:
         self.waiting = threading.Thread(target=self.wait, args=[began])
         self.waiting.start()
 
-    def wait(self, began: float) -> None:
+    def wait(self, began: float):
         _, status, usage = os.wait4(self.process.pid, 0)
         self.status = self.process.returncode = os.waitstatus_to_exitcode(status)
         self.seconds = time.monotonic() - began
@@ -163,7 +163,7 @@ def tell(parts: Iterable[Part]) -> Count:
     return sum(counts, Count(0, 0))
 
 
-def tell_failures(parts: Iterable[Part]) -> None:
+def tell_failures(parts: Iterable[Part]):
     """Prints what failed once more, below all other output: of a long log often the end alone is at hand."""
     for part in parts:
         for line in part.failures():

@@ -18,7 +18,7 @@ BORN, EXPIRY = "20240101T000000!", "2024-06-01"
 class Keys:
     """A folder with a key for each person: their fingerprints by name."""
 
-    def __init__(self) -> None:
+    def __init__(self):
         self.home = pathlib.Path(tempfile.mkdtemp(prefix="pgp-"))
         # the process of a class ends without what atexit has
         multiprocessing.util.Finalize(None, self.end, exitpriority=0)
@@ -36,7 +36,7 @@ class Keys:
             "never",
         )
 
-    def end(self) -> None:
+    def end(self):
         subprocess.run(["gpgconf", "--homedir", self.home, "--kill", "all"], capture_output=True)
         shutil.rmtree(self.home, ignore_errors=True)
 
@@ -63,7 +63,7 @@ class Keys:
             raise AssertionError(f"gpg {words}: {ended.stderr.decode('utf-8', 'replace')}")
         return ended.stdout
 
-    def make(self, name: str, expiry: str) -> None:
+    def make(self, name: str, expiry: str):
         self.gpg(
             "--faked-system-time",
             BORN,

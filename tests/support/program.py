@@ -17,7 +17,7 @@ from tests.support.parts import ROOT
 BUILT = ROOT / unproved.PROGRAM
 
 
-def link_to(file: pathlib.Path) -> pathlib.Path:
+def link_to(file):
     """A link to a file, called debvote, in a folder of its own, which goes when this process ends."""
     folder = pathlib.Path(tempfile.mkdtemp(prefix="debvote-program-"))
     atexit.register(shutil.rmtree, folder, ignore_errors=True)
@@ -27,7 +27,7 @@ def link_to(file: pathlib.Path) -> pathlib.Path:
     return folder / "debvote"
 
 
-def of_today() -> pathlib.Path | None:
+def of_today():
     """The proved program, or one that is kept without proof."""
     if unproved.is_proved():
         return BUILT
@@ -39,7 +39,7 @@ def of_today() -> pathlib.Path | None:
     return None
 
 
-def named() -> pathlib.Path:
+def named():
     """The program, under a path that ends in debvote; if there is none, where the proved one would be."""
     given = os.environ.get("DEBVOTE")
     file = pathlib.Path(given).absolute() if given else of_today()
@@ -54,7 +54,7 @@ def named() -> pathlib.Path:
 PROGRAM = named()
 
 
-def missing(file: pathlib.Path = PROGRAM) -> str | None:
+def missing(file=PROGRAM):
     """If there is no program of today: where it was looked for, and how to make one."""
     if os.environ.get("DEBVOTE"):
         if file.is_file() and os.access(file, os.X_OK):
@@ -63,7 +63,7 @@ def missing(file: pathlib.Path = PROGRAM) -> str | None:
     return "there is no program of these sources: make try makes one in two minutes, without proof"
 
 
-def demand(file: pathlib.Path = PROGRAM) -> None:
+def demand(file=PROGRAM):
     """Ends a program of the tests if there is no debvote."""
     if words := missing(file):
         sys.exit(words)

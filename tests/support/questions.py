@@ -49,7 +49,7 @@ class QuestionsTest(LettersTest):
     def kind(self) -> tuple[object, ...]:
         return (*super().kind(), self.title, *self.polls.items())
 
-    def fill_in(self, folder: pathlib.Path) -> None:
+    def fill_in(self, folder: pathlib.Path):
         super().fill_in(folder)
         (folder / "poll.toml").unlink()
         (folder / "polls" / "title.txt").write_text(f"{self.title}\n")

@@ -152,7 +152,7 @@ def quoted(text: str) -> str:
     return '""\n' + "\n".join(f'"{part}"' for part in [*lines, line])
 
 
-def tell_new(code: str) -> None:
+def tell_new(code: str):
     """Prints the entries that a file of translations lacks, and those that nothing uses."""
     has = {
         entry.texts for entry in entries_in((LOCALE / f"{code}.po").read_text(encoding="utf-8"))[1:]

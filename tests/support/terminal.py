@@ -29,7 +29,7 @@ def has_terminals() -> bool:
 class Terminal:
     """debvote-election at its own terminal, where a test types; without arguments it is a desk."""
 
-    def __init__(self, test: elections.ElectionTest, *words: str) -> None:
+    def __init__(self, test: elections.ElectionTest, *words: str):
         if not has_terminals():
             test.skipTest("there are no terminals in /dev/pts")
         self.test, self.text = test, ""
@@ -42,7 +42,7 @@ class Terminal:
         # a test that fails leaves no program running
         test.addCleanup(self.kill)
 
-    def kill(self) -> None:
+    def kill(self):
         with contextlib.suppress(ChildProcessError):
             if os.waitpid(self.process, os.WNOHANG) == (0, 0):
                 os.kill(self.process, signal.SIGKILL)
@@ -72,12 +72,25 @@ class Terminal:
         shown, _, self.text = self.text.partition(words)
         return shown + words
 
-    def type(self, keys: str) -> None:
+    def type(self, keys: str):
         os.write(self.keys, keys.encode())
 
-    def after(self, keys: str, words: str) -> str:
+    def after(self, keys: str, *words: str) -> str:
+        """What these keys show, up to the last of these words; the others are in it."""
         self.type(keys)
-        return self.until(words)
+        shown = self.until(words[-1])
+        for part in words[:-1]:
+            self.test.assertIn(part, shown)
+        return shown
+
+    def ends(self, keys: str, *parts: str, status: int = 0) -> str:
+        """What is shown from these keys to the end, which has these parts, and this status."""
+        self.type(keys)
+        shown, found = self.end()
+        self.test.assertEqual(found, status, shown)
+        for part in parts:
+            self.test.assertIn(part, shown)
+        return shown
 
     def end(self) -> tuple[str, int]:
         end = time.monotonic() + SECONDS

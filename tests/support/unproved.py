@@ -7,7 +7,6 @@ Beside the proved program are the checksums of all that was proved. `make try` k
 import hashlib
 import pathlib
 import shutil
-from collections.abc import Mapping
 
 from tests.support import parts
 
@@ -20,7 +19,7 @@ MADE_FROM = "made-from"
 LEFT_OUT = {"must-fail", "proofs", "out"}
 
 
-def checksums(root: pathlib.Path) -> str:
+def checksums(root):
     """The checksums of the proved program and of what was proved, as sha256sum writes them."""
     files = [root / PROGRAM, root / "HANDLES"]
     for kind in ("src", "specs", "proofs"):
@@ -35,7 +34,7 @@ def checksums(root: pathlib.Path) -> str:
     )
 
 
-def is_proved() -> bool:
+def is_proved():
     """Whether the proved program is there, and what was proved is what is there now."""
     kept = parts.ROOT / PROGRAM.with_name("proved")
     return (
@@ -45,7 +44,7 @@ def is_proved() -> bool:
     )
 
 
-def sum_of_sources() -> str:
+def sum_of_sources():
     """A sum of the crates and, if it is there, of the kit."""
     whole = hashlib.sha256((parts.kit() / "KIT-ID").read_bytes() if shutil.which("rt") else b"")
     files = (
@@ -59,7 +58,7 @@ def sum_of_sources() -> str:
     return whole.hexdigest()
 
 
-def are_kept(*names: str) -> bool:
+def are_kept(*names):
     """Whether these programs are there, and were made from what is there now."""
     folder = parts.ROOT / FOLDER
     is_of_today = (folder / MADE_FROM).exists() and (
@@ -68,7 +67,7 @@ def are_kept(*names: str) -> bool:
     return is_of_today and all((folder / name).exists() for name in names)
 
 
-def keep(programs: Mapping[str, pathlib.Path], made_from: str) -> None:
+def keep(programs, made_from):
     """Keeps these programs in place of all that were kept."""
     folder = parts.ROOT / FOLDER
     shutil.rmtree(folder, ignore_errors=True)

@@ -127,7 +127,7 @@ class Host:
         tracer: Sequence[object] = (),
         workers: int = 1,
         most_bytes: int | None = None,
-    ) -> None:
+    ):
         self.folder, self.workers, self.most_bytes = folder, workers, most_bytes
         self.before, self.settings = [*tracer, *START], settings
 
@@ -147,7 +147,7 @@ class Host:
             time.sleep(0.005)
         return self
 
-    def start(self) -> None:
+    def start(self):
         self.port = free_port()
         words = [*self.before, *self.settings, "-S", f"127.0.0.1:{self.port}", "-t", self.folder]
         environment = {"PHP_CLI_SERVER_WORKERS": str(self.workers)} if self.workers > 1 else {}
@@ -166,10 +166,10 @@ class Host:
             return True
         return False
 
-    def limit(self) -> None:
+    def limit(self):
         resource.setrlimit(resource.RLIMIT_FSIZE, (self.most_bytes or 0,) * 2)
 
-    def __exit__(self, *_: object) -> None:
+    def __exit__(self, *_: object):
         # its workers, too
         with contextlib.suppress(ProcessLookupError):
             os.killpg(self.process.pid, signal.SIGKILL)
@@ -286,7 +286,7 @@ class Liar:
 
     def __init__(
         self, lie: Callable[[bytes], Iterable[bytes | float]], context: ssl.SSLContext | None = None
-    ) -> None:
+    ):
         self.lie, self.context = lie, context
         self.requests: list[bytes] = []
 
@@ -296,7 +296,7 @@ class Liar:
         threading.Thread(target=self.serve, daemon=True).start()
         return self
 
-    def __exit__(self, *_: object) -> None:
+    def __exit__(self, *_: object):
         # what waits for a request would take one more
         self.socket.shutdown(socket.SHUT_RDWR)
         self.socket.close()
@@ -305,13 +305,13 @@ class Liar:
     def at(self) -> str:
         return f"http{'s' if self.context else ''}://127.0.0.1:{self.port}/"
 
-    def serve(self) -> None:
+    def serve(self):
         with contextlib.suppress(OSError):
             while True:
                 found = self.socket.accept()[:1]
                 threading.Thread(target=self.converse, args=found, daemon=True).start()
 
-    def converse(self, connection: socket.socket) -> None:
+    def converse(self, connection: socket.socket):
         with contextlib.suppress(OSError), connection:
             wrapped = connection
             if self.context:
@@ -361,7 +361,7 @@ class BoxTest(unittest.TestCase):
 
     maxDiff = None
 
-    def setUp(self) -> None:
+    def setUp(self):
         room = tempfile.TemporaryDirectory(prefix="debvote-box-")
         self.folder = pathlib.Path(self.enterContext(room))
         self.script = script_of(KEY, MARK, OWNS)

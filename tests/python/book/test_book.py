@@ -92,11 +92,11 @@ class BookTest(elections.ElectionTest):
     def book(self) -> pathlib.Path:
         return self.folder / "election.db"
 
-    def add(self, *lines: str) -> None:
+    def add(self, *lines: str):
         self.write("lines", "".join(f"{line}\n" for line in lines))
         self.done("add", "--yes", "lines")
 
-    def sql(self, *statements: str) -> None:
+    def sql(self, *statements: str):
         """Changes the book with another program, past its triggers, which are there again afterwards."""
         triggers = self.rows("SELECT name, sql FROM sqlite_schema WHERE type = 'trigger'")
         dropped = [f"DROP TRIGGER {name}" for name, _ in triggers]
@@ -109,7 +109,7 @@ class BookTest(elections.ElectionTest):
         *parts: str,
         acting: Sequence[Sequence[str]] = ACTING[:2],
         reading: Sequence[Sequence[str]] = READING[:1],
-    ) -> None:
+    ):
         """What writes an act, or says what others rely on, stops; what reads says it and goes on."""
         self.write("more", "hal 1,2,3,4\n")
         before = self.read("election.db")
@@ -131,7 +131,7 @@ class BookTest(elections.ElectionTest):
 class Copies(BookTest):
     """A copy of the book in the place of the book, or beside it."""
 
-    def test_copy_of_yesterday(self) -> None:
+    def test_copy_of_yesterday(self):
         copy = self.scratch / "copy"
         self.add("ada 1,2,3,4")
         shutil.copy(self.book, copy)
@@ -158,7 +158,7 @@ class Copies(BookTest):
         self.done("publish")
         self.assertIn("in which act 6 was the last", self.read("result/index.html").decode())
 
-    def test_another_place_whose_path_is_any_bytes(self) -> None:
+    def test_another_place_whose_path_is_any_bytes(self):
         here, self.folder = self.folder, self.scratch / os.fsdecode(b"spring \xff")
         here.rename(self.folder)
         self.assert_stops("never seen this election in this folder")
@@ -169,7 +169,7 @@ class Copies(BookTest):
         self.done("publish")
         self.done("new", os.fsdecode(b"autumn \xfe"), cwd=self.scratch)
 
-    def test_gone_on_elsewhere(self) -> None:
+    def test_gone_on_elsewhere(self):
         copy = self.scratch / "copy"
         shutil.copy(self.book, copy)
         self.add("ada 1,2,3,4", "ben 1,2,3,4")
@@ -188,7 +188,7 @@ class Copies(BookTest):
         self.assertIn("whose act 4 is not the one that this computer had noted", page)
         self.assertNotIn("restored from a copy", page)
 
-    def test_put_back_while_a_desk_is_open(self) -> None:
+    def test_put_back_while_a_desk_is_open(self):
         """The desk still has the file that is gone from the folder: what it entered there would be lost."""
         copy = self.scratch / "copy"
         shutil.copy(self.book, copy)
@@ -205,12 +205,12 @@ class Copies(BookTest):
         )
         self.assert_stops("older copy")
 
-    def test_another_computer(self) -> None:
+    def test_another_computer(self):
         """Each command stops, or says it."""
         self.state = self.scratch / "other state"
         self.assert_stops("never seen this election in this folder", acting=ACTING, reading=READING)
 
-    def test_two_computers_with_one_home(self) -> None:
+    def test_two_computers_with_one_home(self):
         """Folder and home lie on a share: each computer has a note of its own, and an act names the computer that did it."""
         other_id = self.scratch / "machine-id"
         other_id.write_text("0123456789abcdef0123456789abcdef\n")
@@ -233,7 +233,7 @@ class Copies(BookTest):
             [(own,)] * 4 + [(other,)] * 2 + [(own,)] * 2,
         )
 
-    def test_what_stops_nothing(self) -> None:
+    def test_what_stops_nothing(self):
         """A home of yesterday is an act of the same book: nothing stops."""
         kept = self.scratch / "kept"
         shutil.copytree(self.state, kept)
@@ -252,7 +252,7 @@ class Copies(BookTest):
         self.write("members.csv", elections.members_of(elections.NAMES))
         self.assertEqual(self.done("roll").faults, "")
 
-    def test_no_room_for_the_note(self) -> None:
+    def test_no_room_for_the_note(self):
         """Room is made before the act. What fails after the commit leaves the note at an earlier act of the book."""
         self.add("ada 1,2,3,4")
         self.write("more", "hal 1,2,3,4\n")
@@ -291,7 +291,7 @@ class Copies(BookTest):
         self.assert_fault(self.election("add", "--yes", "more"), 7, "this computer must note there")
         self.assertEqual(self.contents(), before)
 
-    def test_left_by_a_sync_tool(self) -> None:
+    def test_left_by_a_sync_tool(self):
         """What this book lacks counts, and not how many acts there are: one that was cut off, and others."""
         self.add("ada 1,2,3,4")
         shutil.copytree(self.state, self.scratch / "other state")
@@ -324,7 +324,7 @@ class Copies(BookTest):
 class Rewritten(BookTest):
     """A book that somebody changed with another program."""
 
-    def setUp(self) -> None:
+    def setUp(self):
         super().setUp()
         self.add("ada 1,2,3,4", "ben 2,1,3,4")
 
@@ -342,7 +342,7 @@ class Rewritten(BookTest):
         names["book"].close()
         return said.getvalue().splitlines() + fault
 
-    def test_whole(self) -> None:
+    def test_whole(self):
         """Each digest is over the one before and all rows of the act, as the program of INSIDE says."""
         # the chain reads no index
         with contextlib.closing(sqlite3.connect(self.book)) as connection:
@@ -390,14 +390,14 @@ class Rewritten(BookTest):
     def tables(self) -> list[str]:
         return [name for name, in self.rows("SELECT name FROM sqlite_schema WHERE type = 'table'")]
 
-    def fill_each_table(self) -> None:
+    def fill_each_table(self):
         self.write("mail", "From: Ada <ada@club.example>\nMessage-ID: <1@x>\nSubject: x\n\nHello\n")
         self.done("add", "--yes", "mail")
         self.done("held", "1", "--set-aside")
         self.done("strike", "2", "--because", "x")
         self.done("letters", "receipts")
 
-    def test_each_column(self) -> None:
+    def test_each_column(self):
         """One row of each table is changed in each of its columns, which the book itself names."""
         self.fill_each_table()
         whole, tables = self.read("election.db"), self.tables()
@@ -426,7 +426,7 @@ class Rewritten(BookTest):
                 tried += 1
         self.assertEqual((len(tables), tried), (10, 52))
 
-    def test_a_line_that_is_changed_removed_or_added(self) -> None:
+    def test_a_line_that_is_changed_removed_or_added(self):
         columns = "envelope, act, elector, line, place, time, late"
         added = "(3, 4, 3, CAST('cleo 1,2,3,4' AS BLOB), ':3', '2026-12-04T17:00:00Z', 0)"
         whole = self.read("election.db")
@@ -445,7 +445,7 @@ class Rewritten(BookTest):
             self.assertIn("act 4 does not match its digest", self.of_document())
             self.book.write_bytes(whole)
 
-    def test_rows_of_no_act(self) -> None:
+    def test_rows_of_no_act(self):
         """Rows before the first act, within a gap that there is not, and after the last act."""
         whole = self.read("election.db")
         for act in (-1, 0, 5, 1_000_000):
@@ -455,7 +455,7 @@ class Rewritten(BookTest):
             self.assertGreater(len(self.of_document()), 1)
             self.book.write_bytes(whole)
 
-    def test_an_index_that_answers_in_place_of_the_table(self) -> None:
+    def test_an_index_that_answers_in_place_of_the_table(self):
         """One bit of the table is changed, and the index says what was there before; or one of the index, and the table says it."""
         self.done("strike", "1", "--because", "x")
         whole = self.read("election.db")
@@ -500,7 +500,7 @@ class Rewritten(BookTest):
         self.assertIn("The chain is whole: ", self.done("log", "--check").output)
         self.done("export", "out")
 
-    def test_another_schema(self) -> None:
+    def test_another_schema(self):
         """What somebody adds to the schema, takes from it or changes in it is seen by each command that opens the book."""
         whole = self.read("election.db")
         strikes = "CREATE TRIGGER x AFTER INSERT ON envelope BEGIN INSERT INTO struck VALUES (new.envelope, new.act); END"
@@ -533,7 +533,7 @@ class Rewritten(BookTest):
             self.assertEqual(self.read("election.db"), changed)
             self.book.write_bytes(whole)
 
-    def test_nothing_is_built_on_a_broken_book(self) -> None:
+    def test_nothing_is_built_on_a_broken_book(self):
         """Each act computes the digest of the one before it anew."""
         self.sql(CHANGED)
         self.write("more", "hal 1,2,3,4\n")
@@ -547,7 +547,7 @@ class Rewritten(BookTest):
                 elections.nothing_by(words),
             )
 
-    def test_no_act_adopts_rows(self) -> None:
+    def test_no_act_adopts_rows(self):
         """Rows with the number of the act to come, or of one after it, stop it, in whatever table they are."""
         self.fill_each_table()
         # a line that stands beside the one that is struck: else there is nothing to take back
@@ -589,7 +589,7 @@ class Rewritten(BookTest):
             )
         self.assertEqual(self.read("election.db"), changed)
 
-    def made_whole(self, *statements: str) -> None:
+    def made_whole(self, *statements: str):
         """Changes the book, computes its chain anew, and has the computer note it: whoever has the computer can do so."""
         self.sql(*statements)
         triggers = self.rows(
@@ -609,7 +609,7 @@ class Rewritten(BookTest):
 
     def assert_changed(
         self, statement: str, said: str, commands: Sequence[Sequence[str]] = (("count",),)
-    ) -> None:
+    ):
         """A book that was changed so, and made whole, stops what others rely on. Then it is as before."""
         whole, notes = self.read("election.db"), (self.state / "debvote").iterdir()
         state = {file: file.read_bytes() for file in notes}
@@ -621,7 +621,7 @@ class Rewritten(BookTest):
         for file, data in state.items():
             file.write_bytes(data)
 
-    def test_electors_are_those_of_the_lines(self) -> None:
+    def test_electors_are_those_of_the_lines(self):
         """For whom an envelope is kept is compared with its line: else `show` tells whose ballot it is, and it is another's."""
         self.add("ben 1,2", "nobody 1,2,3,4", "cleo 1,2,3,4", "dan 1,2,3,4")
         said = (
@@ -647,7 +647,7 @@ class Rewritten(BookTest):
         self.assert_changed(other, said.format(5), every)
         self.done("close")
 
-    def test_verdicts_are_those_of_debvote(self) -> None:
+    def test_verdicts_are_those_of_debvote(self):
         """What the book keeps of debvote's verdicts is compared where others rely on it."""
         # the third line is refused, and replaces nothing
         self.add("ben 1,2", "cleo 1,2,3,4", "cleo 2,1,3,4", "cleo 1,2")
@@ -671,7 +671,7 @@ class Rewritten(BookTest):
                 self.election(*words), 9, "the ballots have the checksum", "and the close recorded"
             )
 
-    def test_a_row_that_names_a_row_that_is_not_there(self) -> None:
+    def test_a_row_that_names_a_row_that_is_not_there(self):
         """The chain is made whole over it, so that only what the rows name tells."""
         for statement, said in {
             "INSERT INTO struck VALUES (99, 4)": "row 99 of struck names a row of envelope that is not there",
@@ -682,7 +682,7 @@ class Rewritten(BookTest):
             self.assert_fault(self.election("log", "--check"), 9, said)
             self.book.write_bytes(whole)
 
-    def test_what_no_command_can_read(self) -> None:
+    def test_what_no_command_can_read(self):
         """It is told as what it is, by whatever command meets it."""
         whole = self.read("election.db")
         for act, statement in {
@@ -720,7 +720,7 @@ class Rewritten(BookTest):
                     self.assert_fault(self.election(*words, given=""), 9, said)
             self.book.write_bytes(whole)
 
-    def test_triggers(self) -> None:
+    def test_triggers(self):
         """What is in the book stays: no row of any table is changed, removed or replaced."""
         self.fill_each_table()
         book = open_book(self.book)
@@ -761,7 +761,7 @@ class OnTheDisk(BookTest):
         self.assertEqual(ended.faults, "")
         return json.loads(ended.output)["act"]
 
-    def test_a_disk_that_fails_in_the_commit(self) -> None:
+    def test_a_disk_that_fails_in_the_commit(self):
         """If the journal is gone already, the act is there; nobody knows whether that is on the disk."""
         said = []
         for call in range(1, 9):
@@ -789,7 +789,7 @@ class OnTheDisk(BookTest):
                 said.append("nobody knows")
         self.assertEqual(set(said), {"done", "nothing", "nobody knows"})
 
-    def test_a_signal_within_a_query(self) -> None:
+    def test_a_signal_within_a_query(self):
         """It ends the program at once, as it does elsewhere."""
         self.write("long.py", LONG)
         for number, status in ((signal.SIGTERM, 128 + signal.SIGTERM), (signal.SIGINT, 5)):
@@ -809,7 +809,7 @@ class OnTheDisk(BookTest):
                 finally:
                     run.kill()
 
-    def test_interrupted_in_the_commit(self) -> None:
+    def test_interrupted_in_the_commit(self):
         """What is done is reported: the signal comes when SQLite removes the journal."""
         journal = str(self.book.resolve()) + "-journal"
         self.write("more", "ben 1,2,3,4\n")
@@ -848,7 +848,7 @@ class OnTheDisk(BookTest):
         )
         return re.findall(r"(?m)^(fsync|rename)\((?:\d+<|\")([^>\"]*)", trace.read_text())
 
-    def test_what_takes_a_place_is_on_the_disk(self) -> None:
+    def test_what_takes_a_place_is_on_the_disk(self):
         """The note, and files beside the book: first the content, then the name."""
         for words, renames in ((("desk",), 1), (("close",), 3)):
             calls = self.calls(*words, given="ada 1,2,3,4\n")
@@ -873,7 +873,7 @@ class OnTheDisk(BookTest):
         )
         self.assertFalse((self.folder / "letters" / "closed.txt").exists())
 
-    def test_a_note_goes_only_forward_and_rows_name_rows_that_are_there(self) -> None:
+    def test_a_note_goes_only_forward_and_rows_name_rows_that_are_there(self):
         note = machine_note.MachineNote("a machine", self.book)
         note.folder = self.scratch / "notes"
         note.file, note.next = note.folder / "note", note.folder / "note.next"
@@ -903,7 +903,7 @@ class OnTheDisk(BookTest):
 class Places(BookTest):
     """Folders in which there is no book that can be worked on."""
 
-    def test_no_book(self) -> None:
+    def test_no_book(self):
         self.assert_fault(self.election("status", cwd=self.folder / "call"), 2, "one folder up")
         self.assert_fault(self.election("status", cwd=self.scratch), 2, "no election.db")
         self.assert_fault(
@@ -914,7 +914,7 @@ class Places(BookTest):
         (old / "journal").write_text("")
         self.assert_fault(self.election("status", cwd=old), 2, "debvote-election 1.x")
 
-    def test_other_databases(self) -> None:
+    def test_other_databases(self):
         with sqlite3.connect(self.folder / "other.db") as connection:
             connection.execute("CREATE TABLE a (b)")
         (self.folder / "other.db").replace(self.book)
@@ -940,7 +940,7 @@ class Places(BookTest):
             self.assert_fault(self.election(*words), 2, said, elections.nothing_by(words))
             self.assertEqual(self.contents(), before)
 
-    def test_damaged(self) -> None:
+    def test_damaged(self):
         data = self.book.read_bytes()
         cut_off, zeros = data[: len(data) // 2], data[:4096] + bytes(len(data) - 4096)
         for damage in (b"words " * 1000, cut_off, zeros, b""):
@@ -949,7 +949,7 @@ class Places(BookTest):
                 self.assert_fault(self.election("status"), 9, "election.db")
                 self.assertEqual(self.book.read_bytes(), damage)
 
-    def test_read_only_folder(self) -> None:
+    def test_read_only_folder(self):
         self.add("ada 1,2,3,4")
         for file in (*self.folder.rglob("*"), self.state, *self.state.rglob("*")):
             file.chmod(0o755 if file.is_dir() else 0o444)
@@ -962,7 +962,7 @@ class Places(BookTest):
         for words in (("close",), ("count", *MOVED)):
             self.assert_fault(self.without_rights(*words), 7, "is not writable")
 
-    def test_read_only_folder_in_which_an_act_was_cut_off(self) -> None:
+    def test_read_only_folder_in_which_an_act_was_cut_off(self):
         """Both files together are the book: the act is taken back where that can be written."""
         names, journal = ("election.db", "election.db-journal"), f"{self.book.resolve()}-journal"
         self.traced(
@@ -980,7 +980,7 @@ class Places(BookTest):
         self.assert_fault(self.without_rights("status"), 9, words + cure)
         self.assertIn("\nLines: 0 (", self.election("status", cwd=copy).output)
 
-    def test_no_locks(self) -> None:
+    def test_no_locks(self):
         compiler = shutil.which("cc")
         if compiler is None:
             self.skipTest("no C compiler is installed")

@@ -25,25 +25,25 @@ SECTOR, PAGE = 512, 4096
 
 
 # ---------------------------------------------------------------- kinds of damage
-def one_bit(data: bytearray, chance: random.Random) -> None:
+def one_bit(data: bytearray, chance: random.Random):
     data[chance.randrange(len(data))] ^= 1 << chance.randrange(8)
 
 
-def one_byte(data: bytearray, chance: random.Random) -> None:
+def one_byte(data: bytearray, chance: random.Random):
     data[chance.randrange(len(data))] = chance.randrange(256)
 
 
-def some_bytes(data: bytearray, chance: random.Random) -> None:
+def some_bytes(data: bytearray, chance: random.Random):
     at, size = chance.randrange(len(data)), chance.randint(2, 16)
     data[at : at + size] = chance.randbytes(len(data[at : at + size]))
 
 
-def first_bytes(data: bytearray, chance: random.Random) -> None:
+def first_bytes(data: bytearray, chance: random.Random):
     """In the heads of file and pages one byte means much."""
     data[chance.randrange(len(data) // PAGE) * PAGE + chance.randrange(100)] = chance.randrange(256)
 
 
-def block(data: bytearray, chance: random.Random, size: int) -> None:
+def block(data: bytearray, chance: random.Random, size: int):
     """A sector or a page has nothing, or noise, or what another one has."""
     at, other = (chance.randrange(len(data) // size) * size for _ in range(2))
     data[at : at + size] = chance.choice(
@@ -51,7 +51,7 @@ def block(data: bytearray, chance: random.Random, size: int) -> None:
     )
 
 
-def cut_end(data: bytearray, chance: random.Random) -> None:
+def cut_end(data: bytearray, chance: random.Random):
     del data[
         chance.choice([chance.randrange(len(data)), chance.randrange(len(data) // PAGE) * PAGE]) :
     ]
@@ -86,7 +86,7 @@ def content(file: pathlib.Path) -> tuple[object, ...]:
 
 
 class Damaged(elections.ElectionTest):
-    def begin(self) -> None:
+    def begin(self):
         super().begin()
         chance = random.Random(1)
         lines = [f"{chance.choice(self.names)} {chance.choice(RANKS)}" for _ in range(LINES)]
@@ -100,7 +100,7 @@ class Damaged(elections.ElectionTest):
         self.done("strike", 7, "--because", "it was taken down wrongly")
         self.done("letters", "receipts")
 
-    def seeds(self, first: int) -> None:
+    def seeds(self, first: int):
         book = self.folder / "election.db"
         whole, before = book.read_bytes(), content(book)
         silent = 0
@@ -121,7 +121,7 @@ class Damaged(elections.ElectionTest):
                 self.show(bytes(data), seed)
         print(f"of {len(range(first, DAMAGES, 4))} damages {silent} change nothing that counts")
 
-    def show(self, data: bytes, seed: int) -> None:
+    def show(self, data: bytes, seed: int):
         """Each command ends in order, or with lines that say what is the matter."""
         for words in (
             ("status",),

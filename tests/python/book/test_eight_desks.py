@@ -32,7 +32,7 @@ class EightDesks(elections.ElectionTest):
         self.assertEqual(desk.returncode, 0)
         return LINES
 
-    def test_each_line_once_and_none_lost(self) -> None:
+    def test_each_line_once_and_none_lost(self):
         told: dict[int, str] = {}
         with concurrent.futures.ThreadPoolExecutor(8) as desks:
             typed = list(desks.map(self.at_desk, self.names, [4, 6, *[None] * 6], [told] * 8))

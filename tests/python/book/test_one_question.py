@@ -36,9 +36,7 @@ def book(tmp_path: pathlib.Path) -> Book:
 
 @pytest.mark.parametrize("label", SEEN)
 @pytest.mark.parametrize("is_within", [False, True])
-def test_of_each_line_the_part_that_answers_it_is_seen(
-    book: Book, label: str, is_within: bool
-) -> None:
+def test_of_each_line_the_part_that_answers_it_is_seen(book: Book, label: str, is_within: bool):
     if is_within:
         with book.snapshot(), book.question(label):
             seen = queries.lines_to_count(book)
@@ -51,7 +49,7 @@ def test_of_each_line_the_part_that_answers_it_is_seen(
     book.demand_whole()
 
 
-def test_what_became_of_a_part_is_of_its_question(book: Book) -> None:
+def test_what_became_of_a_part_is_of_its_question(book: Book):
     with book.question("C"):
         assert [(one.number, one.became) for one in queries.envelopes(book)] == [
             (1, "replaced"),
@@ -74,13 +72,13 @@ def test_what_became_of_a_part_is_of_its_question(book: Book) -> None:
         )
 
 
-def test_a_fault_within_leaves_no_view(book: Book) -> None:
+def test_a_fault_within_leaves_no_view(book: Book):
     with pytest.raises(ZeroDivisionError), book.question("A"):
         1 / 0
     assert queries.lines_to_count(book) == SEEN[""]
 
 
-def test_a_book_that_is_only_read_shows_one_question(book: Book) -> None:
+def test_a_book_that_is_only_read_shows_one_question(book: Book):
     readable = Book(book.path, connected(book.path, "ro"), is_read_only=True)
     with readable.question("A"):
         assert queries.lines_to_count(readable) == SEEN["A"]

@@ -216,7 +216,7 @@ class Model:
     def stopping(self) -> list[int]:
         return sorted({one.number for one in self.waiting(in_time=True)} - self.left)
 
-    def leave(self) -> None:
+    def leave(self):
         """What waits, and arrived in time, stops nothing again."""
         self.left |= {one.number for one in self.waiting(in_time=True)}
 
@@ -310,7 +310,7 @@ class Model:
             if texts[: place + 1].count(texts[place]) > self.came(texts[place], is_late=is_late)
         ]
 
-    def enter(self, ballots: list[Ballot], **how: bool) -> None:
+    def enter(self, ballots: list[Ballot], **how: bool):
         """One act that enters them, if there are any; their letters are done."""
         self.acts += bool(ballots)
         for name, answers, letter in ballots:
@@ -320,12 +320,12 @@ class Model:
             one = Envelope(name, answers, letter, number, self.acts, closes, time, **how)
             self.envelopes.append(one)
 
-    def receive(self, new: list[Letter]) -> None:
+    def receive(self, new: list[Letter]):
         for one in new:
             self.letters.append(one)
             one.number = len(self.letters)
 
-    def offer(self, *, clicks_alone: bool = False) -> None:
+    def offer(self, *, clicks_alone: bool = False):
         """What goes in by itself."""
         going = self.of_letters(lambda one: self.becomes(one) == "goes in")
         going = [one for one in going if one.is_click or not clicks_alone]
@@ -347,14 +347,14 @@ class Model:
                 return True
         return len({self.is_late(letter) for *_, letter in ballots}) > 1
 
-    def take_out(self, taken: Iterable[Envelope], how: str) -> None:
+    def take_out(self, taken: Iterable[Envelope], how: str):
         self.acts += 1
         for one in taken:
             one.out, one.closes_at_out = how, len(self.closes)
             if one.letter and (how == "undo" or one.letter.state == "entered"):
                 one.letter.state = how
 
-    def close(self) -> None:
+    def close(self):
         waiting, number = self.waiting(in_time=True), len(self.closes)
         is_asked = (
             self.asked > self.end
@@ -430,7 +430,7 @@ class Played:
     begun, time, records, page, seal, links = "", "", "", b"", "", dict[str, str]()
 
     @classmethod
-    def setUpClass(cls) -> None:
+    def setUpClass(cls):
         super().setUpClass()
         host = cls.enterClassContext(Liar(cls.answers))
         until = ["--until", f"{END:%Y-%m-%d %H:%M}", "--zone", "UTC"]
@@ -456,7 +456,7 @@ class Played:
         cls.links = {link[0]: "/".join(link) for link in found}
         return folder
 
-    def set_time(self, time: datetime.datetime) -> None:
+    def set_time(self, time: datetime.datetime):
         self.set_clock(time.isoformat())
         type(self).time = f"{time:%Y-%m-%dT%H:%M:%SZ}"
 
@@ -522,7 +522,7 @@ class Played:
             time=f"{one.time:%a, %d %b %Y %H:%M:%S} +0000",
         )
 
-    def click(self, model: Model) -> None:
+    def click(self, model: Model):
         time = model.now - datetime.timedelta(seconds=3)
         one = Letter(self.chance.choice(VOTERS), self.ballot(), time, is_click=True)
         model.clicks.append(one)
@@ -631,7 +631,7 @@ class Played:
         untold, before = model.to_tell() - model.receipts, {*self.receipts()}
         model.receipts |= untold
 
-        def check(_: str) -> None:
+        def check(_: str):
             new = {file.stem: text_in(file) for file in {*self.receipts()} - before}
             self.assertEqual({*new}, {name for name, *_ in untold})
             for name, text in new.items():
@@ -653,7 +653,7 @@ class Played:
             return Step(words, statuses=(9,))
         place, lines = f"call/{label}/poll.toml", model.lines(label)
 
-        def check(output: str) -> None:
+        def check(output: str):
             self.assertEqual(output, self.sheet_of(label, lines, poll=self.read(place)))
 
         return Step(words, statuses=(0, 1), check=check)
@@ -664,7 +664,7 @@ class Played:
         [(number,)] = self.rows("SELECT count(*) FROM act WHERE name NOT LIKE 'letters%'")
         return number
 
-    def played(self, seed: int) -> None:
+    def played(self, seed: int):
         self.chance, model = random.Random(seed), Model(self.acts())
         type(self).records, type(self).page = "", self.read("call/index.html")
         for place in range(LENGTH):
@@ -725,7 +725,7 @@ class Played:
         self.demand(model, (step, ended))
         return model
 
-    def demand_replies(self, before: Model, after: Model, output: str, *, is_whole: bool) -> None:
+    def demand_replies(self, before: Model, after: Model, output: str, *, is_whole: bool):
         """What was told of each envelope holds, by question."""
         told = dict(
             re.findall(r"(?m)^(\d+) ((?:[ABC] )?(?:counted|replaced|late|bad) ?.*?)  ", output)
@@ -750,7 +750,7 @@ class Played:
                 )
         self.assertEqual(told, {}, output)
 
-    def demand(self, model: Model, context: object) -> None:
+    def demand(self, model: Model, context: object):
         """Export and status are the model's."""
         found = [text.splitlines() for text in self.exported()]
         self.assertEqual(found, [model.lines(), model.lines(late=True)], context)
@@ -760,7 +760,7 @@ class Played:
             wanted = model.numbers(label)
             self.assertEqual({key: of_question[key] for key in wanted}, wanted, context)
 
-    def publish(self, model: Model) -> None:
+    def publish(self, model: Model):
         if self.is_secret and not model.is_closed:
             return
         name = f"result-{len(model.earlier)}"
@@ -810,7 +810,7 @@ class Played:
         )
         return sheet
 
-    def demand_told(self, model: Model, folder) -> None:
+    def demand_told(self, model: Model, folder):
         """Page and letter tell each act, and each earlier result."""
         page = (folder / "index.html").read_text()
         letter = " ".join(self.read("letters/result.txt").decode().split())
@@ -829,7 +829,7 @@ class Played:
             re.findall(r"<li><b>(\d+)</b> came late</li>", page), [str(late)] * bool(late)
         )
 
-    def demand_letters(self, model: Model) -> None:
+    def demand_letters(self, model: Model):
         """The letter of the result has the ballot that counts, and so has `show`."""
         self.done("letters", "result", "--force", "--because", "x")
         for name, answers in model.counting().items():

@@ -41,7 +41,7 @@ def by_hand(key: bytes, name: str, own: str) -> str:
 
 
 class Links(unittest.TestCase):
-    def test_a_link_has_79_bits_and_each_of_key_name_and_own_mark_makes_a_new_one(self) -> None:
+    def test_a_link_has_79_bits_and_each_of_key_name_and_own_mark_makes_a_new_one(self):
         self.assertEqual((len(OWN_SIGNS), math.floor(16 * math.log2(len(OWN_SIGNS)))), (31, 79))
         others = {**OWNS, "ada-lee": "23456789ab", "ada2": "3456789ab2"}
         made = itertools.product((KEY, b"x" * 32), others.items())
@@ -56,7 +56,7 @@ class Links(unittest.TestCase):
         many = [third_part(KEY, "ada", new_own_mark()) for _ in range(2_000)]
         self.assertEqual({len({*signs}) for signs in zip(*many)}, {len(OWN_SIGNS)})
 
-    def test_the_word_and_the_key(self) -> None:
+    def test_the_word_and_the_key(self):
         self.assertEqual(asking_word(KEY), hmac.new(KEY, b"ask", hashlib.sha256).hexdigest())
         books = [unittest.mock.Mock(**{"value.return_value": b""}) for _ in range(9)]
         keys = {key_of(book) for book in books}
@@ -70,7 +70,7 @@ class Links(unittest.TestCase):
         digest = hashlib.sha256(hmac.digest(KEY, f"page {MARK}".encode(), "sha256")).hexdigest()
         self.assertEqual(page_of(KEY, MARK), digest[:16])
 
-    def test_what_may_be_a_link_is_left_out_where_the_book_can_not_be_read(self) -> None:
+    def test_what_may_be_a_link_is_left_out_where_the_book_can_not_be_read(self):
         damaged = Fault(None, "the book is damaged", "restore it")
         book = unittest.mock.Mock(**{"value.side_effect": damaged, "rows.side_effect": damaged})
         said = f"[{MARK}] {{}} {OWNS['ada']}"
@@ -79,7 +79,7 @@ class Links(unittest.TestCase):
 
 
 class Words(unittest.TestCase):
-    def test_what_the_page_says_of_each_answer(self) -> None:
+    def test_what_the_page_says_of_each_answer(self):
         """Who reads that a ballot was not taken does not send it again, and who reads that it
         arrived waits.
         """
@@ -103,7 +103,7 @@ class Words(unittest.TestCase):
 
 
 class Scripts(unittest.TestCase):
-    def test_the_same_book_makes_the_same_bytes_and_anything_new_makes_others(self) -> None:
+    def test_the_same_book_makes_the_same_bytes_and_anything_new_makes_others(self):
         script = script_of(KEY, MARK, OWNS)
         self.assertEqual(script_of(KEY, MARK, dict(OWNS)), script)
         scripts = [
@@ -116,7 +116,7 @@ class Scripts(unittest.TestCase):
         ]
         self.assertEqual((len({*scripts}), len({*map(list_digest, scripts)})), (6, 6))
 
-    def test_what_is_below_the_code(self) -> None:
+    def test_what_is_below_the_code(self):
         script = script_of(KEY, MARK, OWNS)
         _, _, lines = script.decode("ascii").rpartition("__halt_compiler();\n")
         self.assertEqual(list_digest(script), hashlib.sha256(lines.encode()).hexdigest())
@@ -132,16 +132,16 @@ class Scripts(unittest.TestCase):
         for secret in (KEY, *map(str.encode, secrets)):
             self.assertNotIn(secret, script)
 
-    def test_what_the_page_runs_to_send_is_short(self) -> None:
+    def test_what_the_page_runs_to_send_is_short(self):
         """Whoever reads it sees what is sealed, and that nothing else is sent."""
         self.assertLessEqual(len(resources("debvote_tools.call", "box.js").encode()), 6_700)
 
-    def test_as_many_records_of_a_link_are_kept_as_the_script_takes(self) -> None:
+    def test_as_many_records_of_a_link_are_kept_as_the_script_takes(self):
         """More would be acknowledged, and passed over."""
         found = re.search(rb"PER_LINK = (\d+),", script_of(KEY, MARK, OWNS))
         self.assertEqual(found and int(found[1]), MOST)
 
-    def test_it_lies_beside_the_page(self) -> None:
+    def test_it_lies_beside_the_page(self):
         for at, address in {
             "https://club.example/vote/": "https://club.example/vote/vote.php",
             "https://club.example/vote/2026.html": "https://club.example/vote/vote.php",

@@ -77,7 +77,7 @@ def as_read(text: str) -> str:
 class Files(unittest.TestCase):
     maxDiff = None
 
-    def test_the_poll_is_the_sealed_one_and_its_checksum_is_said(self) -> None:
+    def test_the_poll_is_the_sealed_one_and_its_checksum_is_said(self):
         for kind, data in KINDS.items():
             with self.subTest(kind=kind):
                 files = call_files(data)
@@ -100,7 +100,7 @@ class Files(unittest.TestCase):
                     self.assertIn(said, page)
                 self.assertIn(f"\n  {checksum}\n", letter_of(data))
 
-    def test_until_when(self) -> None:
+    def test_until_when(self):
         more = f"The time was extended. The call said at first: {FIRST_WORDS}"
         late = changed(until=LATER, questions=of_poll(deadline=None))
         # seen after the end alone
@@ -133,7 +133,7 @@ class Files(unittest.TestCase):
         # the same moment in another zone is the same end
         self.assertFalse(changed(until=UNTIL.astimezone(datetime.UTC)).is_extended)
 
-    def test_where_to(self) -> None:
+    def test_where_to(self):
         signed = changed(is_signed=True, questions=of_poll(shown_title="Wohin?"))
         mark = f"[{signed.questions.mark}]"
         for data, said in (
@@ -152,7 +152,7 @@ class Files(unittest.TestCase):
         self.assertEqual(links, [f"mailto:vote%2Bclub@example.org?subject={subject}"])
         self.assertIn(f'data-mark="{CALL.questions.mark}"', html_of(CALL))
 
-    def test_options_have_their_numbers_and_what_they_need(self) -> None:
+    def test_options_have_their_numbers_and_what_they_need(self):
         shown = "Am See", "72 \u20ac", "Verkaufen", "Keine"
         ratios = [f"majority ratio {ratio}" for ratio in (1, 1, 3)] + ["the default option"]
         for questions, names in (
@@ -184,7 +184,7 @@ class Files(unittest.TestCase):
             found = (page.count('<select class="rank'), page.count('<input type="radio"'))
             self.assertEqual(found, wanted)
 
-    def test_texts_of_options(self) -> None:
+    def test_texts_of_options(self):
         explanations = (
             "First line\nsecond <b>line</b>\n\nand more\n",
             "",
@@ -219,7 +219,7 @@ class Files(unittest.TestCase):
         ):
             self.assertIn(part, letter)
 
-    def test_the_roll(self) -> None:
+    def test_the_roll(self):
         names = changed(real_names={"ada": "Ada <i>", "dan": ""})
         rows = "<li><code>ada</code> <bdi>Ada &lt;i&gt;</bdi></li>\n<li><code>ben</code></li>\n"
         self.assertIn(rows, html_of(names))
@@ -237,7 +237,7 @@ class Files(unittest.TestCase):
                 said = "The names on the roll are in the file poll.toml."
                 self.assertEqual(said in text, not is_listed)
 
-    def test_each_kind_says_its_own(self) -> None:
+    def test_each_kind_says_its_own(self):
         own = {
             "open": (
                 "each with its elector's name on the roll",
@@ -266,7 +266,7 @@ class Files(unittest.TestCase):
                 is_told = sentences is own["open"] and real_names is not None
                 self.assertEqual(real in text, is_told)
 
-    def test_parts_have_their_headings(self) -> None:
+    def test_parts_have_their_headings(self):
         heads = [
             "A rank for each option",
             "What each option needs",
@@ -279,7 +279,7 @@ class Files(unittest.TestCase):
         self.assertEqual(re.findall("<h2[^>]*>(.*?)</h2>", page), heads)
         self.assertEqual(re.findall("<summary><h2[^>]*>(.*?)</h2></summary>", page), heads[1:])
 
-    def test_a_secret_call_shows_no_roll_and_one_with_codes_no_poll(self) -> None:
+    def test_a_secret_call_shows_no_roll_and_one_with_codes_no_poll(self):
         for data, names, is_by_name in ((SECRET, ["poll.toml"], True), (WITH_CODES, [], False)):
             files = call_files(dataclasses.replace(data, real_names=dict.fromkeys(CODES, "Ada L.")))
             self.assertEqual({*files}, {"index.html", "call.txt", "SHA256SUMS", *names})
@@ -300,7 +300,7 @@ class Hostile(unittest.TestCase):
     be.
     """
 
-    def test_they_are_texts(self) -> None:
+    def test_they_are_texts(self):
         plain = self.elements(page_parts.built(html_of(self.hostile(["x"] * 3))))
         for language in LANGUAGES:
             data = dataclasses.replace(self.hostile(HOSTILE), language=language_of(language))
@@ -326,7 +326,7 @@ class Hostile(unittest.TestCase):
         real_names = dict(zip(ROLL, [*texts, "Dan"], strict=True))
         return changed(questions=questions, real_names=real_names)
 
-    def test_the_page_runs_its_own_script_alone(self) -> None:
+    def test_the_page_runs_its_own_script_alone(self):
         page = html_of(self.hostile(HOSTILE))
         style = page.partition("<style>")[2].partition("</style>")[0]
         script = page.rpartition("<script>")[2].partition("</script>")[0]
@@ -344,7 +344,7 @@ class Hostile(unittest.TestCase):
         self.assertNotRegex(script.lower(), r"</script|<!--|<script")
 
     @unittest.skipUnless(shutil.which("tidy"), "tidy is not installed")
-    def test_tidy(self) -> None:
+    def test_tidy(self):
         for data in (self.hostile(HOSTILE), *KINDS.values()):
             # a heading within a summary is newer than tidy
             page = re.sub(r"<summary>(<h2 [^>]*>.*?</h2>)</summary>", r"\1", html_of(data))
@@ -353,7 +353,7 @@ class Hostile(unittest.TestCase):
 
 
 class Addresses(unittest.TestCase):
-    def test_web_addresses(self) -> None:
+    def test_web_addresses(self):
         for good in (
             PAGE,
             "http://x",
@@ -400,7 +400,7 @@ class Addresses(unittest.TestCase):
                 demand_web_address(bad)
             self.assertEqual(caught.exception.status, Status.BAD_WORDS)
 
-    def test_how_a_web_address_with_accents_is_written(self) -> None:
+    def test_how_a_web_address_with_accents_is_written(self):
         """As a browser sends it, and not as it shows it."""
         with self.assertRaises(Fault) as caught:
             demand_web_address("https://example.org/\u00fc/")
@@ -409,7 +409,7 @@ class Addresses(unittest.TestCase):
         self.assertNotIn("browser shows", caught.exception.cure)
         demand_web_address("https://example.org/%C3%BC/")
 
-    def test_mail_addresses(self) -> None:
+    def test_mail_addresses(self):
         for good in (ADDRESS, "a@b", "_x@example.org", "a@" + "b" * 252):
             demand_mail_address(good)
         self.assertEqual(named_address(f"{'x' * 100} <a@b.org>"), ("x" * 100, "a@b.org"))

@@ -35,13 +35,13 @@ def seal(draft: DraftPoll, roll: list[str], language: str, **said: str) -> Seale
 class DraftTest(unittest.TestCase):
     maxDiff = None
 
-    def setUp(self) -> None:
+    def setUp(self):
         self.folder = pathlib.Path(
             self.enterContext(tempfile.TemporaryDirectory(prefix="debvote-draft-"))
         )
         self.write("poll.toml", GERMAN)
 
-    def write(self, name: str, content: str | bytes) -> None:
+    def write(self, name: str, content: str | bytes):
         data = content if isinstance(content, bytes) else content.encode()
         (self.folder / name).write_bytes(data)
 
@@ -60,7 +60,7 @@ class DraftTest(unittest.TestCase):
     def found(self) -> DraftPoll:
         return draft_in(Election(self.folder, elections.PROGRAM.parent))
 
-    def assert_faults(self, faults: object, *wanted: tuple[str, ...]) -> None:
+    def assert_faults(self, faults: object, *wanted: tuple[str, ...]):
         """Each fault has these parts, and tells what to do next."""
         found = [str(fault.words) for fault in faults]
         self.assertEqual(len(found), len(wanted), found)
@@ -77,7 +77,7 @@ class DraftTest(unittest.TestCase):
 
 
 class Sealed(DraftTest):
-    def test_in_any_language(self) -> None:
+    def test_in_any_language(self):
         wanted = SealedPoll(
             "Wo wir uns im Fruehling treffen",
             ("Am See", "Ueber der Bruecke", "Option 3"),
@@ -91,7 +91,7 @@ class Sealed(DraftTest):
         self.assertEqual(seal(self.draft(), ROLL, "de"), wanted)
         self.assertIn("poll ok: 4 options, 3 electors", self.explained(self.draft()))
 
-    def test_what_is_plain_is_not_shown_twice(self) -> None:
+    def test_what_is_plain_is_not_shown_twice(self):
         """The title alone, or an option alone; blanks around a name do not count."""
         sealed = sealed_form(self.draft(PLAIN + 'wording = "more_than"\n'), ["ada"], "en")
         self.assertEqual(sealed.decode(), PLAIN + 'wording = "more_than"\nroll = ["ada"]\n')
@@ -105,7 +105,7 @@ class Sealed(DraftTest):
             self.assertEqual([poll.shown_title, poll.shown_options, poll.default], wanted)
             self.assertEqual(poll.options, names)
 
-    def test_all_that_may_be_set(self) -> None:
+    def test_all_that_may_be_set(self):
         draft = self.draft(
             "\ufeff" + GERMAN + 'wording = "at_least"\nsecret = true\n', {"2.txt": "Schön.\n"}
         )
@@ -131,7 +131,7 @@ class Sealed(DraftTest):
 class Explained(DraftTest):
     """What debvote itself says of the sealed form: it has what is wrong as it was written."""
 
-    def test_what_is_missing_empty_of_a_wrong_type_or_out_of_range(self) -> None:
+    def test_what_is_missing_empty_of_a_wrong_type_or_out_of_range(self):
         missing = "key {}: it is missing".format
         types = {
             "title": "3",
@@ -171,7 +171,7 @@ class Explained(DraftTest):
 
 
 class Faults(DraftTest):
-    def test_other_keys(self) -> None:
+    def test_other_keys(self):
         extra = 'deadline = "x"\naddress = "x"\nroll = []\nlast_envelope = 1\nqorum = 2\nnotes = ""\nexplanations = []\n[more]\nwording = 1\n'
         draft = self.draft(GERMAN + extra)
         wanted = [
@@ -199,7 +199,7 @@ class Faults(DraftTest):
         )
         self.assertNotIn(b"deadline", sealed_form(draft, ROLL, "de"))
 
-    def test_keys_that_no_poll_has(self) -> None:
+    def test_keys_that_no_poll_has(self):
         draft = self.draft(GERMAN.replace("quorum", "qorum") + '"a \\" =\u00e4" = [1]\n')
         self.assertEqual(draft.faults, [])
         found = self.explained(draft)
@@ -210,7 +210,7 @@ class Faults(DraftTest):
         ):
             self.assertIn(part, found)
 
-    def test_values_that_no_poll_has(self) -> None:
+    def test_values_that_no_poll_has(self):
         for key, value in {
             "quorum": "2026-01-01",
             "title": "{a = 1}",
@@ -230,7 +230,7 @@ class Faults(DraftTest):
             )
             self.assertNotIn(b"secret", sealed_form(draft, ROLL, "de"))
 
-    def test_a_poll_that_can_not_be_read(self) -> None:
+    def test_a_poll_that_can_not_be_read(self):
         toml = "poll.toml: it can't be read as TOML"
         for poll, why in {
             "title = \n": f"{toml}, as said above",
@@ -248,7 +248,7 @@ class Faults(DraftTest):
 
 
 class Texts(DraftTest):
-    def test_texts(self) -> None:
+    def test_texts(self):
         draft = self.draft(
             texts={
                 "3.txt": "\ufeffC\r\n\n\tx\n",
@@ -263,7 +263,7 @@ class Texts(DraftTest):
         )
         self.assertEqual(seal(draft, ROLL, "de").explanations, ("ä: \u05d0\n", "", "C\n\n\tx\n"))
 
-    def test_all_that_is_no_text(self) -> None:
+    def test_all_that_is_no_text(self):
         texts = {
             "0.txt": "x",
             "01.txt": "x",
@@ -293,7 +293,7 @@ class Texts(DraftTest):
                 (f"/1.txt:2: it has the character U+{ord(odd):04X}",),
             )
 
-    def test_their_size_together(self) -> None:
+    def test_their_size_together(self):
         half = "x" * 262_144
         self.assertEqual(self.draft(texts={"1.txt": half, "2.txt": half}).faults, [])
         self.assert_faults(
@@ -305,7 +305,7 @@ class Texts(DraftTest):
             ("/1.txt: it is longer than 524288 bytes",),
         )
 
-    def test_what_is_no_file_or_no_folder(self) -> None:
+    def test_what_is_no_file_or_no_folder(self):
         """A pipe would keep its reader waiting."""
         self.write("texts", "x")
         self.assert_faults(self.found().faults, ("texts: Not a directory",))
@@ -326,12 +326,12 @@ class Confusing(DraftTest):
         self.assertEqual(draft.faults, [])
         return list(faults_of_names(draft, ROLL, language))
 
-    def test_nothing_is_wrong(self) -> None:
+    def test_nothing_is_wrong(self):
         # a line that reads as a ballot is parted off where it goes out
         for name in ("Am See", "ben 1,2,3,4"):
             self.assertEqual(self.faults(GERMAN.replace("Am See", name)), [])
 
-    def test_names_of_options_and_of_the_title(self) -> None:
+    def test_names_of_options_and_of_the_title(self):
         poll = (
             GERMAN.replace('"李"', '"ueber der BRUCKE", "UBER DER BRÜCKE"')
             .replace("treffen", "\\u202e")
@@ -344,7 +344,7 @@ class Confusing(DraftTest):
         ]
         self.assert_faults(self.faults(poll), *wanted)
 
-    def test_words_of_a_motion_with_accents(self) -> None:
+    def test_words_of_a_motion_with_accents(self):
         poll = 'title = "The fee"\noptions = ["Raise it"]\nratios = [1]\ndefault = "No, as it is"\nquorum = 0\nmotion = true\n'
         yes, no = (
             "the default option of a motion begins with a word for yes",
@@ -359,7 +359,7 @@ class Confusing(DraftTest):
 
 
 class NewPoll(DraftTest):
-    def test_it_is_filled_in_by_its_own_examples(self) -> None:
+    def test_it_is_filled_in_by_its_own_examples(self):
         text = NEW_POLL.read_text()
         self.assertEqual(
             tomllib.loads(text), {"title": "", "options": [], "ratios": [], "default": ""}

@@ -39,12 +39,12 @@ class RollTest(unittest.TestCase):
             self.faults = [fault, *fault.others]
             return Roll(())
 
-    def assert_named(self, roll: Roll, *names: str) -> None:
+    def assert_named(self, roll: Roll, *names: str):
         self.assertEqual(
             ([fault.words for fault in self.faults], names_of(roll.electors)), ([], list(names))
         )
 
-    def assert_changes(self, roll: Roll, new: str = "", gone: str = "", **changes: str) -> None:
+    def assert_changes(self, roll: Roll, new: str = "", gone: str = "", **changes: str):
         """Who is new and who is gone, and what changes of others; nothing is proposed to them."""
         electors = roll.electors
         found = {elector.name: " ".join(elector.changes) for elector in electors if elector.changes}
@@ -54,12 +54,12 @@ class RollTest(unittest.TestCase):
         )
         self.assertFalse([one for one in electors if one.proposal and not one.is_new])
 
-    def assert_known(self, roll: Roll, *numbers: int | None) -> None:
+    def assert_known(self, roll: Roll, *numbers: int | None):
         """The numbers of the electors in the book."""
         found = [elector.known.number if elector.known else None for elector in roll.electors]
         self.assertEqual(found, list(numbers))
 
-    def assert_faults(self, roll: Roll, *wanted: tuple[str, ...]) -> None:
+    def assert_faults(self, roll: Roll, *wanted: tuple[str, ...]):
         self.assertEqual(len(self.faults), len(wanted), [fault.words for fault in self.faults])
         for fault, parts in zip(self.faults, wanted):
             for part in parts:
@@ -67,17 +67,17 @@ class RollTest(unittest.TestCase):
 
 
 class Proposals(RollTest):
-    def test_by_the_language(self) -> None:
+    def test_by_the_language(self):
         self.assert_named(self.roll("Zoë Müller", "Ann", language="de"), "zoe-mueller", "ann")
         self.assert_named(self.roll("Zoë Müller", "Ann", language="fr"), "zoe-muller", "ann")
 
-    def test_an_address_where_nothing_is_left_of_who(self) -> None:
+    def test_an_address_where_nothing_is_left_of_who(self):
         self.assert_named(self.roll("李明;x@y Li.Ming@x", "...;dot@x"), "x", "dot")
         self.assert_faults(
             self.roll("李明", "李;李@x", "Ada"), (":2: no name can be made from 李明",), (":3: no name",)
         )
 
-    def test_who_would_get_one_name_gets_a_number(self) -> None:
+    def test_who_would_get_one_name_gets_a_number(self):
         self.assert_named(
             self.roll("Ann Lee", "Ánn Lee", "Ann-Lee", "Bo"),
             "ann-lee-1",
@@ -94,7 +94,7 @@ class Proposals(RollTest):
             "maximiliane-maximiliane-maximili",
         )
 
-    def test_names_of_others_are_not_taken(self) -> None:
+    def test_names_of_others_are_not_taken(self):
         gone = Elector(7, "ann-3", None, "Ann Z", ())
         self.assert_named(
             self.roll("Ann", "Other;;ann", "Another;;ann-2", "Ann.", known=[gone]),
@@ -106,7 +106,7 @@ class Proposals(RollTest):
         roll = self.roll("Ann", "Other;;ann")
         self.assertEqual([elector.proposal for elector in roll.electors], ["ann", ""])
 
-    def test_ten_thousand_of_one_name(self) -> None:
+    def test_ten_thousand_of_one_name(self):
         marks = str.maketrans("01", "!?")
         rows = [f"Ann {number:b}".translate(marks) for number in range(10_000)]
         names = names_of(self.roll(*rows).electors)
@@ -114,7 +114,7 @@ class Proposals(RollTest):
 
 
 class Known(RollTest):
-    def test_a_name_stays_with_its_person(self) -> None:
+    def test_a_name_stays_with_its_person(self):
         roll = self.roll("Zoë", "Ben B;;ben", "Ada L;a@x", "Dan", known=KNOWN)
         self.assert_named(roll, "zoe", "ben", "ada", "dan")
         self.assert_known(roll, 3, 2, 1, None)
@@ -122,19 +122,19 @@ class Known(RollTest):
         # the same list changes nothing
         self.assert_changes(self.roll(*SAME, known=KNOWN))
 
-    def test_who_is_renamed_keeps_the_name_in_the_list(self) -> None:
+    def test_who_is_renamed_keeps_the_name_in_the_list(self):
         roll = self.roll(*SAME[:2], "Zoe", known=KNOWN)
         self.assert_named(roll, "ada", "ben", "zoe-2")
         self.assert_changes(roll, "zoe-2", "zoe")
         self.assert_changes(self.roll(*SAME[:2], "Zoe;;zoe", known=KNOWN), zoe="who")
 
-    def test_a_new_name_for_the_same_person(self) -> None:
+    def test_a_new_name_for_the_same_person(self):
         roll = self.roll("Ada L;A@x;ada.l", *SAME[1:], known=KNOWN)
         self.assert_named(roll, "ada.l", "ben", "zoe")
         self.assert_changes(roll, **{"ada.l": "name"})
         self.assert_known(roll, 1, 2, 3)
 
-    def test_who_is_gone_and_comes_again(self) -> None:
+    def test_who_is_gone_and_comes_again(self):
         self.assert_changes(self.roll(SAME[1], known=KNOWN), "", "ada zoe")
         left = [*KNOWN[:2], Elector(3, "zoe", None, "Zoë", ())]
         roll = self.roll(*SAME, "Zoe", known=left)
@@ -144,21 +144,21 @@ class Known(RollTest):
         self.assert_changes(self.roll(*SAME[:2], known=left))
         self.assert_changes(self.roll(*SAME[:2], "Zoë;new@x", known=left), "zoe")
 
-    def test_of_two_namesakes_that_of_the_last_list_is_meant(self) -> None:
+    def test_of_two_namesakes_that_of_the_last_list_is_meant(self):
         for act, number, gone in ((None, 2, ""), (1, None, "ann-1 ann-2")):
             known = [Elector(1, "ann-1", act, "Ann", ()), Elector(2, "ann-2", 2, "Ann", ())]
             roll = self.roll("Ann", known=known)
             self.assert_known(roll, number)
             self.assertEqual(names_of(roll.gone), gone.split())
 
-    def test_who_is_not_named_is_nobody_else(self) -> None:
+    def test_who_is_not_named_is_nobody_else(self):
         known = [Elector(1, "x", 1, "", ()), Elector(2, "ben", 2, "", ())]
         roll = self.roll(";;y", "Ben;;ben", known=known)
         self.assert_named(roll, "y", "ben")
         self.assert_known(roll, None, 2)
         self.assertEqual(names_of(roll.gone), ["x"])
 
-    def test_two_with_one_who_need_names_of_their_own(self) -> None:
+    def test_two_with_one_who_need_names_of_their_own(self):
         self.assert_faults(
             self.roll("Ann", "Bo", " Ann "),
             (":2: lines 2, 4 have the same `who`: Ann", "under `name`"),
@@ -173,7 +173,7 @@ class Known(RollTest):
             *((f":{line}: it has no `who`",) for line in (2, 3, 4)),
         )
 
-    def test_a_name_that_belongs_to_another(self) -> None:
+    def test_a_name_that_belongs_to_another(self):
         self.assert_faults(
             self.roll("Ada L;;ben", "Ben;b@x", known=KNOWN),
             (":2: `ben` is the name of Ben (line 3) already", "write another name"),
@@ -181,19 +181,19 @@ class Known(RollTest):
         # where the other has gone, or is spelled anew, it is theirs
         self.assert_named(self.roll("Benjamin;;ben", known=KNOWN), "ben")
 
-    def test_names_and_keys_that_two_have(self) -> None:
+    def test_names_and_keys_that_two_have(self):
         roll = self.roll(f"Ada;;x;{KEY}", "Bo;;y", f"Cy;;x;{KEY}")
         self.assert_faults(
             roll, (":4: lines 2, 4 have the same name: x",), (":4: lines 2, 4 have the same key",)
         )
 
-    def test_too_many(self) -> None:
+    def test_too_many(self):
         rows = [f"Elector {number}" for number in range(10_001)]
         self.assert_faults(self.roll(*rows), ("it has 10001 members; at most 10000 are allowed",))
         self.roll(*rows[1:])
         self.assertEqual(self.faults, [])
 
-    def test_the_faults_of_the_list_are_among_them(self) -> None:
+    def test_the_faults_of_the_list_are_among_them(self):
         self.assert_faults(
             self.roll("Ann;no", "Ann"), (":2: `no` is not a mail address",), (":2: lines 2, 3",)
         )
@@ -204,12 +204,12 @@ class AfterTheCall(RollTest):
     def called(self, *rows: str) -> Roll:
         return self.roll(*rows, known=KNOWN, is_called=True)
 
-    def test_addresses_and_keys_may_change_and_the_order_is_that_of_the_poll(self) -> None:
+    def test_addresses_and_keys_may_change_and_the_order_is_that_of_the_poll(self):
         roll = self.called("Zoë;z@x", "Ben;b@x c@x", SAME[0])
         self.assert_named(roll, "ada", "ben", "zoe")
         self.assert_changes(roll, ben="address key", zoe="address")
 
-    def test_the_people_stay(self) -> None:
+    def test_the_people_stay(self):
         for rows, *wanted in (
             (SAME[1:2], ("missing: ada (Ada L), zoe (Zoë)", "only addresses and keys may change")),
             ([*SAME, "Dan"], ("new: dan (Dan)",)),

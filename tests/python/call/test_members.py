@@ -20,7 +20,7 @@ class MembersTest(unittest.TestCase):
         )
         return found, members.faults_of("members.csv", wrong)
 
-    def assert_rows(self, content: str | bytes, *wanted: tuple[int, str, str, str]) -> None:
+    def assert_rows(self, content: str | bytes, *wanted: tuple[int, str, str, str]):
         """Line, name, who and addresses of each member, and no fault."""
         found, faults = self.read(content)
         self.assertEqual([fault.words for fault in faults], [])
@@ -28,7 +28,7 @@ class MembersTest(unittest.TestCase):
             [(row.line, row.name, row.who, " ".join(row.addresses)) for row in found], list(wanted)
         )
 
-    def assert_faults(self, content: str | bytes, *wanted: tuple[str, ...]) -> None:
+    def assert_faults(self, content: str | bytes, *wanted: tuple[str, ...]):
         """The parts of each fault, all of which stop the run."""
         try:
             _, faults = self.read(content)
@@ -45,7 +45,7 @@ class MembersTest(unittest.TestCase):
 
 
 class Read(MembersTest):
-    def test_delimiters_encodings_heads_and_cells(self) -> None:
+    def test_delimiters_encodings_heads_and_cells(self):
         text = "who;mail\r\nZoë Ł. 李;zoe@x\r\n"
         encodings = [text.encode(), codecs.BOM_UTF8 + text.encode()]
         encodings += [
@@ -98,7 +98,7 @@ class Read(MembersTest):
             with self.subTest(content[:60]):
                 self.assert_rows(content, (2, *row))
 
-    def test_trailing_delimiters_blank_rows_short_rows_and_quotation_marks(self) -> None:
+    def test_trailing_delimiters_blank_rows_short_rows_and_quotation_marks(self):
         text = "\n,,\nname,who,mail,,\n,,,,\nada,Ada,,,\n\n   \nben\ncleo,,c@x,,,,,,\n,,,,"
         self.assert_rows(text, (5, "ada", "Ada", ""), (8, "ben", "", ""), (9, "cleo", "", "c@x"))
         text = 'name,who,mail\nada,"Lovelace, Ada",a@x\n"ben", "Ben ""the"" B","b@x"\ncleo,Cleo "C" C,c@x\ndan,"",""\n'
@@ -110,12 +110,12 @@ class Read(MembersTest):
         ]
         self.assert_rows(text, *wanted)
 
-    def test_line_ends_within_a_cell_keep_the_numbers_of_lines(self) -> None:
+    def test_line_ends_within_a_cell_keep_the_numbers_of_lines(self):
         for feed in ("\n", "\r\n", "\r"):
             text = f'name,who,mail{feed}ada,"Ada{feed}{feed}L",a@x{feed}ben,Ben,b@x{feed}'
             self.assert_rows(text, (2, "ada", "Ada L", "a@x"), (5, "ben", "Ben", "b@x"))
 
-    def test_several_addresses(self) -> None:
+    def test_several_addresses(self):
         text = 'who,mail\nAda,a@x b@x\nBen,"b@x, c@x;d@x"\nCleo,"Lovelace, Cleo <c@x>; <d@x>"\nDan,mailto:d@x d@x\n'
         found = [row.addresses for row in self.read(text)[0]]
         wanted = [("a@x", "b@x"), ("b@x", "c@x", "d@x"), ("c@x", "d@x"), ("d@x",)]
@@ -126,7 +126,7 @@ class Read(MembersTest):
 
 
 class Unread(MembersTest):
-    def test_faults_of_the_file(self) -> None:
+    def test_faults_of_the_file(self):
         for content, *wanted in [
             (b"", ("members.csv: it is empty",)),
             (b"\xef\xbb\xbf\r\n ,,\r\n", ("it is empty",)),
@@ -164,7 +164,7 @@ class Unread(MembersTest):
             with self.subTest(content):
                 self.assert_faults(content, *wanted)
 
-    def test_a_quotation_mark_without_its_end_swallows_no_member(self) -> None:
+    def test_a_quotation_mark_without_its_end_swallows_no_member(self):
         for text, line in [
             ('who,mail\nAda,a@x\n"Ben,b@x\nCleo,c@x\n', 3),
             ('who,mail\n"Ada" L,a@x\n', 2),
@@ -175,7 +175,7 @@ class Unread(MembersTest):
 
 
 class Rows(MembersTest):
-    def test_all_faults_are_found_at_once_with_their_lines(self) -> None:
+    def test_all_faults_are_found_at_once_with_their_lines(self):
         text = (
             f"who;mail;name;key\nAda;ada.x;Ada;\n;b@x;;\nCl\u202eeo;c@x;;{KEY}0\n\nDan;d@x;dan.2-x;{KEY}\n"
             '"E\nve";e@x;eve;;too far\n;;;x\nFay;f@@x <g@x;;\nGus;g\u202e@x\n'
@@ -196,7 +196,7 @@ class Rows(MembersTest):
         self.assert_faults(text, *wanted)
         self.assertEqual([row.line for row in self.read(text)[0]], [2, 3, 4, 6, 7, 9, 10, 11])
 
-    def test_a_row_with_semicolons_below_a_head_with_commas(self) -> None:
+    def test_a_row_with_semicolons_below_a_head_with_commas(self):
         said = (
             ":2: `Ada;ada@x` has a semicolon, and the header line has commas",
             "put a comma between the cells of this line too",
@@ -209,7 +209,7 @@ class Rows(MembersTest):
         )
         self.assert_faults(f"who,mail,name\nAda,,{'a' * 33}\n", (":2: ", "cannot be a name"))
 
-    def test_a_sum_below_the_members(self) -> None:
+    def test_a_sum_below_the_members(self):
         for row in (
             "TOTAL: 3,",
             "Summe,3",
@@ -226,7 +226,7 @@ class Rows(MembersTest):
         wanted = (2, "", "Anna Total", ""), (3, "", "Summ", ""), (4, "", "Suma", "s@x")
         self.assert_rows("who,mail\nAnna Total,\nSumm,\nSuma,s@x\n", *wanted)
 
-    def test_characters_that_were_lost(self) -> None:
+    def test_characters_that_were_lost(self):
         self.assert_faults(
             "who,mail\nZo\ufffd,z@x\n",
             (":2: `Zo\ufffd` has lost a character when it was saved (U+FFFD); write the ",),

@@ -20,7 +20,7 @@ class MotionTest(CalledTest):
     names = ("ada", "ben")
     call_words = None
 
-    def new_poll(self, *changes: tuple[str, str]) -> None:
+    def new_poll(self, *changes: tuple[str, str]):
         text = self.poll
         for before, after in changes:
             self.assertIn(before, text)
@@ -31,7 +31,7 @@ class MotionTest(CalledTest):
 class Checked(MotionTest):
     members = members_of(("ada", "ben")) + "Kim No,k@club.example\nEve Ja,e@club.example\n"
 
-    def test_what_is_shown(self) -> None:
+    def test_what_is_shown(self):
         said = self.told("check")
         self.assertIn("\nA motion, yes: Raise the fee to 72 Euro, no: No, as it is\n", said)
         self.assertIn(
@@ -42,7 +42,7 @@ class Checked(MotionTest):
         said = self.told("check")
         self.assertNotRegex(said, "motion|Kim")
 
-    def test_what_is_refused(self) -> None:
+    def test_what_is_refused(self):
         no = "the option of a motion begins with a word for no or abstention"
         options = '["Raise the fee to 72 Euro"]\nratios = [1]', '["A", "B"]\nratios = [1, 1]'
         for before, after, fault in (
@@ -74,7 +74,7 @@ class Checked(MotionTest):
 
 
 class Sealed(MotionTest):
-    def test_beside_the_poll(self) -> None:
+    def test_beside_the_poll(self):
         """The poll has the bytes that it has without, so debvote reads it as ever; and a call that
         was taken back says nothing of the next.
         """
@@ -92,7 +92,7 @@ class Sealed(MotionTest):
         self.told("add", "--force", "-", given="ada yes\n")
         self.assertIn("\n    bad shape: ", self.told("status"))
 
-    def test_in_a_secret_vote(self) -> None:
+    def test_in_a_secret_vote(self):
         self.write("poll.toml", f"{self.poll}secret = true\n")
         self.told("codes")
         self.told("call", "--to", "vote@club.example", "--yes")
@@ -111,7 +111,7 @@ class Sealed(MotionTest):
 class InLetters(MotionTest):
     members = "who,mail\nAda,ada@club.example\nBen,\n"
 
-    def test_words_are_on_paper_alone(self) -> None:
+    def test_words_are_on_paper_alone(self):
         """In each language: an answer by mail has none, and a quotation of ours is none."""
         for language, words in WORDS.items():
             self.folder = self.scratch / language

@@ -29,7 +29,7 @@ SEALED = (
 
 
 class Vector(unittest.TestCase):
-    def test_keys_links_and_proofs(self) -> None:
+    def test_keys_links_and_proofs(self):
         private = 0x3E79C501DDBB6D4149C9E06F9CC36D1937409A30F2CFD4CF0AC4C63CEB8E7217
         public = "BIG/lxi+PeveCqXJPpDXgvQieQ4fwn0e52ygBcZ4jXvfq5CEPH6TzFR6U3moAmTryRJjtef1g47DOtVoVCmsioQ="
         self.assertEqual(key_pair(KEY, MARK)[0], public)
@@ -44,14 +44,14 @@ class Vector(unittest.TestCase):
             "5ba958a001e63f16d6ca5272b03ad1ef53a65d8810320ea413823df2067b591a",
         )
 
-    def test_a_sealed_ballot(self) -> None:
+    def test_a_sealed_ballot(self):
         self.assertEqual(key_pair(KEY, MARK)[1](NUMBER, SEALED), INSIDE)
         # and the tests seal as the page does
         self.assertEqual(
             sealing.sealed(key_pair(KEY, MARK)[0], MARK, NUMBER, INSIDE, own=2), SEALED
         )
 
-    def test_each_poll_and_each_book_has_keys_of_its_own(self) -> None:
+    def test_each_poll_and_each_book_has_keys_of_its_own(self):
         pairs = [(KEY, MARK), (KEY, "f" * 16), (b"x" * 32, MARK)]
         self.assertEqual(len({key_pair(*pair)[0] for pair in pairs}), 3)
         for pair in pairs[1:]:
@@ -60,7 +60,7 @@ class Vector(unittest.TestCase):
 
 
 class Refused(unittest.TestCase):
-    def test_what_is_not_as_the_page_sealed_it(self) -> None:
+    def test_what_is_not_as_the_page_sealed_it(self):
         data = base64.urlsafe_b64decode(SEALED)
         self.assertEqual(len(data) % 3, 0)
         point, rest = data[:65], data[65:]
@@ -92,7 +92,7 @@ class Refused(unittest.TestCase):
             with self.subTest(text), self.assertRaises(ValueError):
                 opened(number, text)
 
-    def test_a_computer_without_the_library(self) -> None:
+    def test_a_computer_without_the_library(self):
         with unittest.mock.patch.dict(sys.modules, {"cryptography.exceptions": None}):
             with self.assertRaises(Fault) as caught:
                 runpy.run_path(str(sealed_ballots.__file__))

@@ -63,7 +63,7 @@ CODES_ON_ROLL = [elector(code) for code in CODES.values()]
 
 
 class Codes(unittest.TestCase):
-    def test_the_alias_is_the_one_that_an_elector_finds(self) -> None:
+    def test_the_alias_is_the_one_that_an_elector_finds(self):
         self.assertNotEqual(alias_of(CODES["ada"], "ben"), ALIASES["ada"])
         # whatever lies in the folder
         with tempfile.TemporaryDirectory(prefix="debvote-alias-") as folder:
@@ -84,7 +84,7 @@ class Codes(unittest.TestCase):
                     )
                     self.assertEqual(found.stdout, f"{said}{ALIASES[name]}\n")
 
-    def test_codes_and_seals_are_sixteen_bytes_of_the_generator_that_nobody_can_guess(self) -> None:
+    def test_codes_and_seals_are_sixteen_bytes_of_the_generator_that_nobody_can_guess(self):
         for draw in (lambda: new_code("ada"), seal_line):
             with unittest.mock.patch("secrets.token_hex", return_value="c" * 32) as drawn:
                 self.assertEqual(draw(), "c" * 32)
@@ -95,7 +95,7 @@ class Codes(unittest.TestCase):
             parts = {text[start : start + 8] for text in found for start in range(0, 32, 8)}
             self.assertEqual(len(parts), 200)
 
-    def test_codes_on_the_roll_are_typed_so_they_have_the_signs_of_own_marks(self) -> None:
+    def test_codes_on_the_roll_are_typed_so_they_have_the_signs_of_own_marks(self):
         with unittest.mock.patch(
             "debvote_tools.call.secret.new_own_mark",
             side_effect=["22222e2222", "b" * 10, "a2" * 5, "b" * 10, "c" * 10],
@@ -117,7 +117,7 @@ class Codes(unittest.TestCase):
                         demand_no_code("letter.txt", (text % typed).encode(), [*codes, code])
             demand_no_code("letter.txt", f"x{code}2 {code[:-1]}".encode(), [*codes, code])
 
-    def test_no_code_and_no_alias_can_be_taken_for_a_number(self) -> None:
+    def test_no_code_and_no_alias_can_be_taken_for_a_number(self):
         good = "a" * 32
         for bad in ("1" * 32, "1234e567" + "0" * 24):
             with unittest.mock.patch("secrets.token_hex", side_effect=[bad, good]):
@@ -128,7 +128,7 @@ class Codes(unittest.TestCase):
         self.assertEqual((made.call_count, made.call_args.args), (3, (code, "ada")))
         self.assertFalse(NUMBER.fullmatch("12a4"))
 
-    def test_what_looks_like_a_code(self) -> None:
+    def test_what_looks_like_a_code(self):
         for code in (
             "0123456789abcdef" * 2,
             "0123 4567 89AB CDEF " * 2,
@@ -149,7 +149,7 @@ class Codes(unittest.TestCase):
 
 
 class Published(unittest.TestCase):
-    def test_the_poll_has_aliases_in_an_order_that_tells_no_name(self) -> None:
+    def test_the_poll_has_aliases_in_an_order_that_tells_no_name(self):
         poll = aliased(alone(POLL), [*ELECTORS, elector("eve", "", "e" * 32, "0" * 32)])[""]
         self.assertEqual(poll.roll, tuple(sorted(ALIASES.values())))
         self.assertNotEqual(list(poll.roll), list(ALIASES.values()))
@@ -159,7 +159,7 @@ class Published(unittest.TestCase):
         with self.assertRaises(KeyError):
             aliased(alone(POLL), ELECTORS[:1])
 
-    def test_the_ballots_are_in_normal_form_and_in_the_order_of_aliases(self) -> None:
+    def test_the_ballots_are_in_normal_form_and_in_the_order_of_aliases(self):
         """Ranks are numbers, and no texts. Whoever has no ballot has no line, and each line is of
         its own elector.
         """
@@ -174,7 +174,7 @@ class Published(unittest.TestCase):
             lines = aliased_ballots(standing, ALIASES).decode().splitlines()
             self.assertEqual(lines, sorted(f"{ALIASES[name]} {wanted[name]}" for name in wanted))
 
-    def test_the_seal(self) -> None:
+    def test_the_seal(self):
         ballots, seals = b"a 1,2,3\n", ("c" * 32, "")
         wanted = [hashlib.sha256(text + ballots).hexdigest() for text in (b"c" * 32 + b"\n", b"")]
         self.assertEqual([sealed_checksum(seal, ballots) for seal in seals], wanted)
@@ -191,7 +191,7 @@ class Slips(unittest.TestCase):
             for part in parts
         ]
 
-    def test_each_has_what_is_of_its_elector_and_nothing_of_another(self) -> None:
+    def test_each_has_what_is_of_its_elector_and_nothing_of_another(self):
         for row, text in zip(ELECTORS, self.each(CALL), strict=True):
             self.assertIn(f"{row.who} Where we meet Name{row.name} Code{row.code} ", text)
             words = [
@@ -202,7 +202,7 @@ class Slips(unittest.TestCase):
             ]
             self.assertNotRegex(text, "|".join((*map(r"\b{}\b".format, words), *ALIASES.values())))
 
-    def test_what_all_have(self) -> None:
+    def test_what_all_have(self):
         said = (
             "Vote untilFriday, 4 December 2026, 18:00 (UTC+01:00) Send your ballot tov@example.org "
         )
@@ -233,7 +233,7 @@ class Slips(unittest.TestCase):
                 for name, text in zip(ROLL[1:], others, strict=True):
                     self.assertIn(part.replace("ada", name), text)
 
-    def test_with_codes_on_the_roll_nobody_has_a_name(self) -> None:
+    def test_with_codes_on_the_roll_nobody_has_a_name(self):
         for code, text in zip(CODES.values(), self.each(WITH_CODES, CODES_ON_ROLL), strict=True):
             self.assertIn(f"Where we meet Code{code} Vote until", text)
             self.assertIn(f"{code} _,_,_", text)
@@ -245,7 +245,7 @@ class Slips(unittest.TestCase):
         [text] = self.each(CALL, [elector("ada", "", CODES["ada"])])
         self.assertTrue(text.startswith("ada Where we meet Nameada Code"))
 
-    def test_hostile_texts_are_texts(self) -> None:
+    def test_hostile_texts_are_texts(self):
         texts = [
             "<script>alert(1)</script>",
             '" onload="x',
@@ -268,7 +268,7 @@ class Slips(unittest.TestCase):
                 self.assertEqual((ended.stderr, ended.returncode), ("", 0))
 
     @NEEDS_BROWSER
-    def test_they_fit_a_narrow_window_and_no_slip_is_printed_over_two_pages(self) -> None:
+    def test_they_fit_a_narrow_window_and_no_slip_is_printed_over_two_pages(self):
         folder = self.enterContext(tempfile.TemporaryDirectory(prefix="debvote-slips-"))
         window = self.enterContext(Window(390, 800))
 
@@ -351,7 +351,7 @@ class Table(unittest.TestCase):
         """A cell of the table, by what it is made of."""
         return self.rows(elector("ada", cell))[0][1]
 
-    def test_each_elector_has_a_row(self) -> None:
+    def test_each_elector_has_a_row(self):
         rows = [
             elector(name, f'{name.title()} "\u00c9", jr.', CODES[name], ALIASES[name])
             for name in ROLL
@@ -364,7 +364,7 @@ class Table(unittest.TestCase):
         [row] = self.rows(called)
         self.assertEqual((row[2], row[5]), ("a@x =b@x", f"[{CALL.questions.mark}-abcde23456]"))
 
-    def test_a_spreadsheet_runs_no_cell(self) -> None:
+    def test_a_spreadsheet_runs_no_cell(self):
         for cell in (
             "=1+1",
             "@SUM(A1)",

@@ -100,10 +100,10 @@ def click(host: Host, number: int, ranks: str = "1,2", name: str = "ada") -> Ans
 
 
 class ClickTest(BoxTest):
-    def assert_answer(self, answer: Answer, status: int, word: str) -> None:
+    def assert_answer(self, answer: Answer, status: int, word: str):
         self.assertEqual((answer.status, answer.word), (status, word))
 
-    def assert_lost(self, *answers: Answer) -> None:
+    def assert_lost(self, *answers: Answer):
         for answer in answers:
             self.assert_answer(answer, 503, "lost:")
 
@@ -120,7 +120,7 @@ class Requests(ClickTest):
         """In another time zone than that of the records."""
         return super().host("-d", "date.timezone=Asia/Kolkata", *settings, **how)
 
-    def test_the_script_is_short_and_the_same_for_each_vote(self) -> None:
+    def test_the_script_is_short_and_the_same_for_each_vote(self):
         code = resources("debvote_tools.call", SCRIPT).encode()
         self.assertLessEqual(len(code), 4_700)
         self.assertEqual(code.find(END_OF_CODE), len(code) - len(END_OF_CODE))
@@ -128,7 +128,7 @@ class Requests(ClickTest):
             self.assertTrue(script.startswith(code))
         subprocess.run(["php", "-n", "-l", self.folder / SCRIPT], capture_output=True, check=True)
 
-    def test_each_row_of_the_protocol(self) -> None:
+    def test_each_row_of_the_protocol(self):
         host = self.host()
         before = datetime.datetime.now(datetime.UTC).replace(microsecond=0)
         head = f"box 2 {MARK} {list_digest(self.script)} "
@@ -189,7 +189,7 @@ class Requests(ClickTest):
         opened = [host.send(b"", "GET", f"/{name}").text for name in (FILE, SCRIPT)]
         self.assertEqual(opened, ["", "bad: only POST\n"])
 
-    def test_the_longest_ballot(self) -> None:
+    def test_the_longest_ballot(self):
         """And a request that is a field of a form."""
         host, longest = self.host(), 3_800
         for number, signs, status in ((1, longest, 200), (2, longest + 1, 400), (3, LIMIT, 413)):
@@ -205,7 +205,7 @@ class Requests(ClickTest):
         self.received(click(host, 4, answers, "ben-lee"))
         self.assertIn(f"ben-lee {answers}", sealing.line_in(KEY, host.records()[1]))
 
-    def test_other_kinds_of_content_and_a_request_that_names_a_file(self) -> None:
+    def test_other_kinds_of_content_and_a_request_that_names_a_file(self):
         host = self.host()
         kinds = [f"application/{kind}" for kind in ("x-www-form-urlencoded", "json")]
         kinds += ["application/octet-stream", "text/plain;charset=UTF-8"]
@@ -220,7 +220,7 @@ class Requests(ClickTest):
         self.assertEqual(len(host.lines()), len(kinds) + 1)
         self.assertEqual({file.name for file in self.folder.iterdir()}, {SCRIPT, FILE})
 
-    def test_what_is_sent_again_is_one_record(self) -> None:
+    def test_what_is_sent_again_is_one_record(self):
         host = self.host()
         first, later = (self.received(click(host, *one)) for one in ((1, "1,2"), (2, "2,1")))
         self.assertLess(first, later)
@@ -230,7 +230,7 @@ class Requests(ClickTest):
             self.assert_answer(click(host, 1, ranks, name), 400, "bad:")
         self.assertEqual(host.lines(), ["ada 1,2", "ada 2,1"])
 
-    def test_a_hundred_records_of_a_link(self) -> None:
+    def test_a_hundred_records_of_a_link(self):
         host = self.host()
         times = [self.received(click(host, number)) for number in range(OF_A_LINK)]
         # each in a second of its own, in the order in which they came
@@ -241,7 +241,7 @@ class Requests(ClickTest):
         self.received(click(host, 100, name="ben-lee"))
         self.assertEqual(len(host.lines()), OF_A_LINK + 1)
 
-    def test_a_clock_that_is_put_back(self) -> None:
+    def test_a_clock_that_is_put_back(self):
         """Of one link what comes later has a later time, and is not kept if that would be far
         ahead; others have the time of the clock.
         """
@@ -261,7 +261,7 @@ class Requests(ClickTest):
         self.assertEqual(self.file.read_bytes(), before)
         self.received(click(host, 10, name="cleo.x"))
 
-    def test_each_request_has_the_file_alone(self) -> None:
+    def test_each_request_has_the_file_alone(self):
         """Who only reads it holds a ballot up, too: two that write at once would lose one."""
         host = self.host()
         self.received(click(host, 1))
@@ -274,7 +274,7 @@ class Requests(ClickTest):
             self.received(sent.result())
         self.assertEqual(host.lines(), ["ada 1,2", "ada 2,1"])
 
-    def test_several_at_once_by_one_link(self) -> None:
+    def test_several_at_once_by_one_link(self):
         host = self.host(workers=4)
         with concurrent.futures.ThreadPoolExecutor(6) as pool:
             for number in range(0, 18, 6):
@@ -290,7 +290,7 @@ class Requests(ClickTest):
         read = [datetime.datetime.strptime(one, "%a, %d %b %Y %H:%M:%S") for one in times]
         self.assertEqual((len(read), read), (9, sorted(set(read))))
 
-    def test_bad_requests_refuse_no_good_one(self) -> None:
+    def test_bad_requests_refuse_no_good_one(self):
         host, many = self.host(), 800
         bad = [*BAD, b"x" * 5_000, ballot("ada", "1,2", 1, "2" * 16), request_of("ask " + "1" * 64)]
         for number in range(many):
@@ -299,7 +299,7 @@ class Requests(ClickTest):
                 self.received(click(host, number, "2,1", list(OWNS)[number // 100 % 3]))
         self.assertEqual(len(host.lines()), many // 100)
 
-    def test_a_click_takes_no_time_in_a_large_box(self) -> None:
+    def test_a_click_takes_no_time_in_a_large_box(self):
         """Of the processor, of which a web host gives little; with ten thousand electors."""
         owns = OWNS | {f"e{number:04}": "56789abcde" for number in range(10_000)}
         (self.folder / SCRIPT).write_bytes(script_of(KEY, MARK, owns))
@@ -319,7 +319,7 @@ class Requests(ClickTest):
 
 @NEEDS_PHP
 class Votes(ClickTest):
-    def test_another_script_over_it_is_asked_at_once(self) -> None:
+    def test_another_script_over_it_is_asked_at_once(self):
         """A host keeps compiled code, and has to see at once what is new below it."""
 
         def put(*call: object) -> bytes:
@@ -356,7 +356,7 @@ class Votes(ClickTest):
                 self.assertEqual(click(host, 3).status, 409)
                 self.file.unlink()
 
-    def test_a_script_without_its_list(self) -> None:
+    def test_a_script_without_its_list(self):
         host = self.host()
         for cut in (len(resources("debvote_tools.call", SCRIPT)), 1_000):
             (self.folder / SCRIPT).write_bytes(self.script[:cut])
@@ -364,7 +364,7 @@ class Votes(ClickTest):
                 self.assertNotIn(host.send(body).word, ("box", "received"))
         self.assertFalse(self.file.exists())
 
-    def test_the_key_is_in_no_request_and_in_no_file(self) -> None:
+    def test_the_key_is_in_no_request_and_in_no_file(self):
         """Nor has script or file a name or a link, or what is kept a line."""
         click(self.host(), 1, name="ben-lee")
         found = self.script + self.file.read_bytes()
@@ -380,7 +380,7 @@ class Votes(ClickTest):
 class Broken(ClickTest):
     """The file was cut off, the disk is full or broken."""
 
-    def test_a_record_that_was_cut_off_is_written_over(self) -> None:
+    def test_a_record_that_was_cut_off_is_written_over(self):
         host = self.host()
         for number in (1, 2):
             click(host, number, "1,12")
@@ -404,7 +404,7 @@ class Broken(ClickTest):
                 self.received(click(host, 2, "1,12"))
                 self.assertEqual(host.lines(), ["ada 1,12"] * max(count + (cut < len(whole)), 1))
 
-    def test_what_is_no_file_of_a_box_is_left_as_it_is(self) -> None:
+    def test_what_is_no_file_of_a_box_is_left_as_it_is(self):
         host = self.host()
         head, marked = b"From box@page.invalid\n-- \n\n", b"\xef\xbb\xbf" + FIRST + b"From"
         for data in (b"<?php exit; ?>\r\nFrom x\r\n", b"x" * 100, head, marked):
@@ -415,7 +415,7 @@ class Broken(ClickTest):
         self.file.mkdir()
         self.assert_lost(host.ask())
 
-    def test_a_full_disk(self) -> None:
+    def test_a_full_disk(self):
         """A write that fails at each byte is taken back, and the next one is whole."""
         with Host(self.folder) as host:
             click(host, 1)
@@ -437,7 +437,7 @@ class Broken(ClickTest):
             self.received(click(host, 1))
             self.assertEqual(len(host.lines()), 1)
 
-    def test_a_php_without_fsync(self) -> None:
+    def test_a_php_without_fsync(self):
         """PHP 8.0 compiles all but that: it kept ballots, failed before the answer, and was asked
         well.
         """
@@ -445,7 +445,7 @@ class Broken(ClickTest):
         self.assert_lost(host.ask(), click(host, 1), host.ask())
         self.assertFalse(self.file.exists())
 
-    def test_a_box_that_is_full(self) -> None:
+    def test_a_box_that_is_full(self):
         host = self.host()
         then = "2026-11-28T12:00:00Z"
         length = len(record("ada", "ada 1,2", 1, then))
@@ -485,7 +485,7 @@ class Killed(ClickTest):
         begins = [place for place, (name, _, _) in enumerate(calls) if name.startswith("accept")]
         return calls[begins[0] : begins[1]]
 
-    def test_it_is_on_the_disk_before_it_is_acknowledged(self) -> None:
+    def test_it_is_on_the_disk_before_it_is_acknowledged(self):
         kept, found = ["ftruncate", "write", "fsync"], f"{self.folder}>"
         for what, number, wanted in (
             ("a first one", 1, [*kept, "fsync", *kept]),
@@ -504,7 +504,7 @@ class Killed(ClickTest):
                 self.assertEqual(of_file[:answered], ["flock", *wanted])
                 self.assertEqual(set(of_file[answered:]), {"sendto"})
 
-    def test_nothing_that_was_acknowledged_is_lost_by_a_kill(self) -> None:
+    def test_nothing_that_was_acknowledged_is_lost_by_a_kill(self):
         """After each kill the same ballot is sent again by another process: it is there once."""
         other, kills = self.host(), 0
         for is_new in (True, False):
@@ -534,7 +534,7 @@ class Killed(ClickTest):
                 self.assertEqual(other.lines(), lines, (call, count))
         self.assertGreater(kills, 100)
 
-    def test_an_asking_that_is_killed_holds_up_no_click(self) -> None:
+    def test_an_asking_that_is_killed_holds_up_no_click(self):
         """The first one makes the file."""
         other = self.host()
         calls = [
@@ -551,7 +551,7 @@ class Killed(ClickTest):
             self.received(click(other, number))
             self.assertEqual(other.lines(), ["ada 1,2"], (call, count))
 
-    def test_a_disk_that_breaks(self) -> None:
+    def test_a_disk_that_breaks(self):
         with Host(self.folder) as host:
             click(host, 1)
         others = record("ben-lee", "ben-lee 1,2", 7, "2026-11-28T12:00:00Z").encode() * 100

@@ -1,6 +1,7 @@
 """`count`: the sheet alone, and what to do with it."""
 
 import os
+import shlex
 import subprocess
 import sys
 
@@ -10,80 +11,60 @@ from debvote_tools.poll.sealed import SealedPoll
 from debvote_tools.result.casting import castings_in
 
 from tests.support import elections
+from tests.support.called import CalledTest
 
 # a tie without the last line
 WON = "ada 1,2,4,3\nben 2,1,4,3\ncleo 1,2,4,3\ndan 2,1,4,3\neve 1,2,4,3\n"
 
 
-class Count(elections.ElectionTest):
+class Count(CalledTest):
     poll = elections.POLL.replace("In the town hall", "Hall")
 
-    def add(self, text: str) -> None:
-        self.write("lines", text)
-        self.done("add", "--yes", "lines")
-
-    def assert_counted(self, words: tuple[str, ...], status: int, *parts: str) -> None:
+    def assert_counted(self, words: str, status: int, *parts: str):
         """The sheet alone goes to standard output, and the sentence on standard error has these parts."""
-        out, ended = self.scratch / f"out{len(os.listdir(self.scratch))}", self.election(
-            "count", *words
-        )
+        out = self.scratch / f"out{len(os.listdir(self.scratch))}"
+        ended = self.election(f"count {words}")
         self.done("export", out)
-        sheet = self.debvote(
-            "count", "--poll", out / "poll.toml", "--ballots", out / "ballots.txt", *words
-        ).output
+        files = "--poll", out / "poll.toml", "--ballots", out / "ballots.txt"
+        sheet = self.debvote("count", *files, *shlex.split(words)).output
         self.assertNotEqual(sheet, "")
         self.assertEqual(ended.output, sheet)
         self.assert_fault(ended, status, "Next: ", *parts)
 
-    def test_an_option_that_has_won(self) -> None:
-        self.add(WON)
+    def test_an_option_that_has_won(self):
+        self.adds(WON)
         before = self.contents()
-        self.assert_counted(
-            (),
-            0,
-            "this is not the result yet: when the vote is over, run debvote-election close, then debvote-election publish",
-        )
+        said = "this is not the result yet: when the vote is over, run debvote-election close, then debvote-election publish"
+        self.assert_counted("", 0, said)
         self.assertEqual(self.contents(), before)
         self.done("close")
-        self.assert_counted((), 0, "Next: debvote-election publish")
+        self.assert_counted("", 0, "Next: debvote-election publish")
 
-    def test_a_tie_and_the_casting_vote(self) -> None:
+    def test_a_tie_and_the_casting_vote(self):
         """A struck line does not count, nor a late one: each would decide it."""
-        self.add(WON)
-        self.done("strike", "5", "--because", "it was taken down wrongly")
+        self.adds(WON)
+        self.done("strike 5 --because 'it was taken down wrongly'")
         cast = "--cast-by WHO --cast-on DATE"
         choose = "it is a tie between 'At the lake', Hall; the holder of the casting vote chooses one of them: "
         choose += f"debvote-election publish --casting 'At the lake' {cast} or debvote-election publish --casting Hall {cast}\n"
-        self.assert_counted(
-            (),
-            1,
-            "Next: this is not the result yet: when the vote is over, run debvote-election close; now "
-            + choose,
-        )
+        now = "Next: this is not the result yet: when the vote is over, run debvote-election close; now "
+        self.assert_counted("", 1, f"{now}{choose}")
         self.done("close")
-        self.add("fay 1,2,4,3\n")
-        self.assert_counted((), 1, f"Next: {choose}")
-        self.assert_counted(
-            ("--casting", "Hall"), 0, f"Next: debvote-election publish --casting Hall {cast}\n"
-        )
-        self.assert_counted(
-            ("--casting", "Further discussion"), 8, "'Further discussion' is not among them"
-        )
-        ended = self.election("count", "--casting", "Hall", "--casting", "At the lake")
-        self.assert_fault(
-            ended,
-            8,
+        self.adds("fay 1,2,4,3\n")
+        self.assert_counted("", 1, f"Next: {choose}")
+        following = f"Next: debvote-election publish --casting Hall {cast}\n"
+        self.assert_counted("--casting Hall", 0, following)
+        not_tied = "'Further discussion' is not among them"
+        self.assert_counted("--casting 'Further discussion'", 8, not_tied)
+        self.refused(
+            "count --casting Hall --casting 'At the lake'",
             "--casting='At the lake': it has the casting vote Hall already; nothing was counted: give one of them",
+            status=8,
         )
-        ended = self.election("count", "--casting", "Nowhere")
-        self.assert_fault(
-            ended,
-            8,
-            "no option has this name",
-            "'At the lake', Hall, 'Sell the house and meet there'",
-        )
+        names = "'At the lake', Hall, 'Sell the house and meet there'"
+        self.refused("count --casting Nowhere", "no option has this name", names, status=8)
 
-    def test_the_names_of_options(self) -> None:
+    def test_the_names_of_options(self):
         """A casting vote is for a plain name, or for the name that people read; a text that is both, of two options, is neither."""
         poll = SealedPoll(
             "T",
@@ -107,16 +88,16 @@ class Count(elections.ElectionTest):
             raised.exception.words,
         )
 
-    def test_a_casting_vote_where_there_is_no_tie(self) -> None:
-        self.add("ada 1,2,4,3\n")
-        ended = self.election("count", "--casting", "At the lake")
+    def test_a_casting_vote_where_there_is_no_tie(self):
+        self.adds("ada 1,2,4,3\n")
+        ended = self.election("count --casting 'At the lake'")
         note = "Note: it is no tie, so no casting vote decides it; what --casting says of it is not told.\n"
         self.assertEqual((ended.status, ended.faults.partition("Next: ")[0]), (0, note))
 
-    def test_output_that_nobody_reads_to_its_end(self) -> None:
+    def test_output_that_nobody_reads_to_its_end(self):
         """It ends quietly, with the status of an output that failed, as that of debvote."""
         env = elections.environment() | {"XDG_STATE_HOME": str(self.state)}
-        for words in ("--help", "add --help", "--version", "count", "status", "log"):
+        for words in ("add --help", "--version", "count", "status", "log"):
             with subprocess.Popen(["true"], stdin=subprocess.PIPE) as other:
                 other.wait()
                 command = [sys.executable, elections.ELECTION, *words.split()]

@@ -12,7 +12,10 @@ from tests.support.letters import OTHER_RANKS, RANKS
 from tests.support.terminal import Terminal
 
 CAST = "Enter it? [y/n] "
+REPLACED = "ada has a ballot, which will be replaced: "
 CAST_REFUSED = "It would not count. Enter it anyway? [y/n] "
+
+PASSED = "Note: the announced end of the vote, Friday, 4 December 2020, 18:00 (UTC+01:00), has passed; what is entered still counts until "
 
 
 class TerminalTest(CalledTest):
@@ -22,205 +25,161 @@ class TerminalTest(CalledTest):
         self.assertIn(head, desk.until("Ballot: "))
         return desk
 
-    def end(self, desk: Terminal, keys: str = "") -> str:
-        """Types these keys, and returns what is shown at the end of a desk, which ends well."""
-        desk.type(keys)
-        shown, status = desk.end()
-        self.assertEqual(status, 0, shown)
-        return shown
-
 
 class AtATerminal(TerminalTest):
-    def test_a_ballot_is_shown_and_cast(self) -> None:
+    def test_a_ballot_is_shown_and_cast(self):
         desk = self.at_terminal(
             "  1 At the lake\n  2 In the town hall\n  3 Sell the house and meet there\n  4 Further discussion\n"
             "Type a ballot as ada 2,3,4,1 (the elector, then a rank for each option in this order); q ends.\n"
         )
         before, changed = self.last_act(), "desk:1: `Ada 1, 2,4,3` was changed to `ada 1,2,4,3`\n"
-        self.assertTrue(
-            desk.after("Ada 1, 2,4,3\n", CAST).endswith(f"{changed}ada: {LAKE}\n{CAST}")
-        )
+        shown = desk.after("Ada 1, 2,4,3\n", CAST)
+        self.assertTrue(shown.endswith(f"{changed}ada: {LAKE}\n{CAST}"), shown)
         self.assertEqual(self.last_act(), before)
         self.assertEqual(desk.after("y\n", "Ballot: "), "y\n1 counted  ada\nBallot: ")
-        self.assertEqual(self.lines(), [f"ada {RANKS}"])
-        self.assertIn(
-            f"ada has a ballot, which will be replaced: {LAKE}\n",
-            desk.after(f"ada {OTHER_RANKS}\n", CAST),
-        )
-        self.assertIn("\n2 replaced  ada\n", desk.after("YES\n", "Ballot: "))
-        self.assertIn(
+        self.assert_lines(f"ada {RANKS}")
+        desk.after(f"ada {OTHER_RANKS}\n", f"{REPLACED}{LAKE}\n", CAST)
+        desk.after("YES\n", "\n2 replaced  ada\n", "Ballot: ")
+        desk.ends(
+            "q\n",
             "This desk has entered 2 lines (1 counted, 1 replaced).\nNext: debvote-election status\n",
-            self.end(desk, "q\n"),
         )
         self.assertEqual(self.acts(), [("desk", {"lines": 1})] * 2)
-        found = [
-            (envelope.elector, envelope.source, envelope.time, envelope.is_late)
-            for envelope in self.envelopes()
-        ]
         self.assertEqual(
-            found,
-            [
-                (self.elector("ada"), None, act.time, False)
-                for act in self.book.acts()[self.first_act - 1 :]
-            ],
+            [(one.elector, one.source, one.time, one.is_late) for one in self.envelopes()],
+            [(self.elector("ada"), None, act.time, False) for act in self.book.acts()[before:]],
         )
 
-    def test_a_no_forgets_and_another_answer_is_asked_again(self) -> None:
+    def test_a_no_forgets_and_another_answer_is_asked_again(self):
         """The end of the input and an interrupt are a no, too."""
         before, desk = self.last_act(), self.at_terminal()
         shown = desk.after(f"ada {RANKS}\nperhaps\nn\n", "It was not entered.")
         self.assertIn("Type y for yes, or n for no.\n", shown)
         desk.until("Ballot: ")
-        self.assertIn("Type a ballot, or q to end.\n", desk.after("\n", "Ballot: "))
-        self.assertIn("This desk has entered 0 lines.\n", self.end(desk, "\x04"))
+        desk.after("\n", "Type a ballot, or q to end.\n", "Ballot: ")
+        desk.ends("\x04", "This desk has entered 0 lines.\n")
         for key in ("\x04", "\x03"):
             desk = self.at_terminal()
             desk.after(f"ada {RANKS}\n", CAST)
             # and no traceback
-            self.assertRegex(self.end(desk, key), r"^[^T]*This desk has entered 0 lines\.\n[^T]*$")
+            self.assertRegex(desk.ends(key), r"^[^T]*This desk has entered 0 lines\.\n[^T]*$")
         self.assertEqual(self.last_act(), before)
 
-    def test_a_refused_line_is_told_once_and_may_be_cast(self) -> None:
+    def test_a_refused_line_is_told_once_and_may_be_cast(self):
         desk = self.at_terminal()
         for line, words in {
-            "Gsu 1,2,3,4": "Gsu 1,2,3,4: bad not on roll: gsu is not on the roll",
-            "Ada 1,,3,4": 'Ada 1,,3,4: bad shape: column 7: ","; a ballot has a rank there: a number from 1 to 99, or a hyphen for an option that is not ranked, and so last',
-            "Ada 1,2": "Ada 1,2: bad rank count: 2 ranks, the poll has 4 options",
+            "Gsu 1,2,3,4": "bad not on roll: gsu is not on the roll",
+            "Ada 1,,3,4": 'bad shape: column 7: ","; a ballot has a rank there: a number from 1 to 99, or a hyphen for an option that is not ranked, and so last',
+            "Ada 1,2": "bad rank count: 2 ranks, the poll has 4 options",
         }.items():
-            shown = desk.after(f"{line}\nperhaps\nn\n", CAST_REFUSED)
             # the terminal shows what was typed ahead before it or behind it
             self.assertRegex(
-                shown,
-                rf"\n(n\n)?It would be refused: {re.escape(words)}\nA ballot line of this poll: `ada 2,3,4,1`: [^\n]*; 1 is the best\nIt would",
+                desk.after(f"{line}\nperhaps\nn\n", CAST_REFUSED),
+                rf"\n(n\n)?It would be refused: {line}: {re.escape(words)}\nA ballot line of this poll: `ada 2,3,4,1`: [^\n]*; 1 is the best\nIt would",
             )
             # the question is asked in the same words again
             desk.until(CAST_REFUSED)
             desk.until("Ballot: ")
-        self.assertIn(
-            "1 bad not on roll  gsu 1,2,3,4\n", desk.after("gsu 1,2,3,4\ny\n", "Ballot: ")
-        )
-        self.end(desk, "q\n")
-        self.assertEqual(self.lines(), ["gsu 1,2,3,4"])
+        desk.after("gsu 1,2,3,4\ny\n", "1 bad not on roll  gsu 1,2,3,4\n", "Ballot: ")
+        desk.ends("q\n")
+        self.assert_lines("gsu 1,2,3,4")
 
-    def test_another_desk_casts_for_the_same_elector_meanwhile(self) -> None:
+    def test_another_desk_casts_for_the_same_elector_meanwhile(self):
         first, second = self.at_terminal(), self.at_terminal()
         for desk in (first, second):
             self.assertNotIn("has a ballot", desk.after(f"ada {RANKS}\n", CAST))
-        self.assertIn("1 counted  ada\n", second.after("y\n", "Ballot: "))
+        second.after("y\n", "1 counted  ada\n", "Ballot: ")
         # what was agreed to is another thing now, so it is asked anew
         shown = first.after("y\n", CAST)
         self.assertIn(
             "Nothing was done: another command changed the election meanwhile. Now it is so:\n",
             shown,
         )
-        self.assertIn(f"ada has a ballot, which will be replaced: {LAKE}\n", shown)
-        self.assertEqual(self.lines(), [f"ada {RANKS}"])
-        self.assertIn("2 replaced  ada\n", first.after("y\n", "Ballot: "))
-        self.assertIn(
-            f"ada has a ballot, which will be replaced: {LAKE}\n",
-            second.after(f"ada {OTHER_RANKS}\n", CAST),
-        )
+        self.assertIn(f"{REPLACED}{LAKE}\n", shown)
+        self.assert_lines(f"ada {RANKS}")
+        first.after("y\n", "2 replaced  ada\n", "Ballot: ")
+        second.after(f"ada {OTHER_RANKS}\n", f"{REPLACED}{LAKE}\n", CAST)
         # a ballot that is struck meanwhile changes it, too
-        self.told("strike", 2, "--because", "a test")
+        self.told("strike 2 --because 'a test'")
         second.after("y\n", CAST)
-        self.end(second, "n\nq\n")
-        self.end(first, "q\n")
-        self.assertEqual(self.lines(), [f"ada {RANKS}"])
+        second.ends("n\nq\n")
+        first.ends("q\n")
+        self.assert_lines(f"ada {RANKS}")
 
-    def test_other_acts_meanwhile(self) -> None:
+    def test_other_acts_meanwhile(self):
         """Those about others ask nothing anew; after a close what is entered is late."""
         desk = self.at_terminal()
         self.assertNotIn("late", desk.after(f"ada {RANKS}\n", CAST))
-        self.told("add", given=f"ben {RANKS}\n")
-        self.assertIn("2 counted  ada\n", desk.after("y\n", "Ballot: "))
+        self.adds(f"ben {RANKS}\n")
+        desk.after("y\n", "2 counted  ada\n", "Ballot: ")
         self.assertNotIn("late", desk.after(f"cleo {RANKS}\n", CAST))
         self.told("close")
-        self.assertIn("It is late, and will not count.\n", desk.after("y\n", CAST))
+        desk.after("y\n", "It is late, and will not count.\n", CAST)
         self.assertEqual(self.late_lines(), [])
-        self.assertIn("3 late  cleo\n", desk.after("y\n", "Ballot: "))
-        self.end(desk, "q\n")
+        desk.after("y\n", "3 late  cleo\n", "Ballot: ")
+        desk.ends("q\n")
         self.assertEqual(
             (self.lines(), self.late_lines()), ([f"ben {RANKS}", f"ada {RANKS}"], [f"cleo {RANKS}"])
         )
         desk = Terminal(self)
-        self.assertIn("Note: the vote was closed at ", desk.until("; what is entered now is late."))
+        desk.until("Note: the vote was closed at ")
+        desk.until("; what is entered now is late.")
         desk.until("Ballot: ")
-        self.assertRegex(
-            desk.after(f"ada {OTHER_RANKS}\n", CAST),
-            rf"\nada: {HALL}\nIt is late, and will not count\.\n",
-        )
-        self.assertIn("4 late  ada\n", self.end(desk, "y\nq\n"))
+        late = f"\nada: {HALL}\nIt is late, and will not count.\n"
+        desk.after(f"ada {OTHER_RANKS}\n", late, CAST)
+        desk.ends("y\nq\n", "4 late  ada\n")
 
-    def test_the_end_meanwhile(self) -> None:
+    def test_the_end_meanwhile(self):
         """It is told once, above the reply to the first ballot after it; of a late one its reply says so."""
         desk = self.at_terminal()
         self.assertNotIn("Note: ", desk.after(f"ada {RANKS}\ny\n", "Ballot: "))
         self.act("extend", {"until": "2020-12-04T18:00:00+01:00"})
-        end = re.escape(
-            "Note: the announced end of the vote, Friday, 4 December 2020, 18:00 (UTC+01:00), has passed; what is entered still counts "
-        )
-        self.assertRegex(desk.after(f"ben {RANKS}\ny\n", "Ballot: "), rf"{end}.*\n2 counted  ben\n")
+        shown = desk.after(f"ben {RANKS}\ny\n", "Ballot: ")
+        self.assertRegex(shown, rf"{re.escape(PASSED)}.*\n2 counted  ben\n")
         self.assertNotIn("Note: ", desk.after(f"cleo {RANKS}\ny\n", "Ballot: "))
         self.told("close")
-        self.assertNotIn("Note: ", self.end(desk, f"dan {RANKS}\ny\nq\n"))
+        self.assertNotIn("Note: ", desk.ends(f"dan {RANKS}\ny\nq\n"))
         self.assertEqual(self.late_lines(), [f"dan {RANKS}"])
 
-    def test_another_call_meanwhile(self) -> None:
+    def test_another_call_meanwhile(self):
         """The options have other numbers now."""
         desk = self.at_terminal()
-        self.told("call", "--take-back")
-        self.write(
-            "poll.toml",
-            self.poll.replace(
-                '"At the lake", "In the town hall"', '"In the town hall", "At the lake"'
-            ),
+        self.told("call --take-back")
+        options = ['"At the lake"', '"In the town hall"']
+        changed = self.poll.replace(", ".join(options), ", ".join(options[::-1]))
+        self.write("poll.toml", changed)
+        self.told("call --to vote@club.example")
+        said = (
+            "the call for votes was made anew meanwhile; nothing was entered: run the command again"
         )
-        self.told("call", "--to", "vote@club.example")
-        desk.type(f"ada {RANKS}\nn\nq\n")
-        output, status = desk.end()
-        self.assertIn(
-            "the call for votes was made anew meanwhile; nothing was entered: run the command again",
-            output,
-        )
-        self.assertEqual((status, self.lines()), (9, []))
+        desk.ends(f"ada {RANKS}\nn\nq\n", said, status=9)
+        self.assert_lines()
 
-    def test_after_reopen_it_asks_once(self) -> None:
+    def test_after_reopen_it_asks_once(self):
         before = self.at_terminal()
         self.told("close")
-        self.told("reopen", "--because", "a bag was forgotten")
+        self.told("reopen --because 'a bag was forgotten'")
         asked = "Did this come before that close? [y/n] "
-        for answer, replies in (
-            ("y", ("1 counted  ada\n", "2 counted  ben\n")),
-            ("n", ("3 late  ada\n", "4 late  ben\n")),
+        for answer, first, second in (
+            ("y", "1 counted  ada\n", "2 counted  ben\n"),
+            ("n", "3 late  ada\n", "4 late  ben\n"),
         ):
             desk = Terminal(self)
             desk.until(asked)
             desk.after(f"{answer}\n", "Ballot: ")
-            for name, reply in zip(("ada", "ben"), replies):
-                desk.after(f"{name} {RANKS}\ny\n", reply)
-            self.end(desk, "q\n")
-        self.assertEqual(
-            [detail["came_before_close"] for name, detail in self.acts() if name == "desk"],
-            [True, True, False, False],
-        )
+            desk.after(f"ada {RANKS}\ny\n", first)
+            desk.ends(f"ben {RANKS}\ny\nq\n", second)
+        answers = [detail["came_before_close"] for name, detail in self.acts() if name == "desk"]
+        self.assertEqual(answers, [True, True, False, False])
         self.assertEqual((len(self.lines()), len(self.late_lines())), (2, 2))
         # so does a desk that was there before
         before.after(f"ada {RANKS}\n", asked)
-        self.assertIn("It is late, and will not count.\n", before.after("n\n", CAST))
-        self.assertIn("5 late  ada\n", self.end(before, "y\nq\n"))
+        before.after("n\n", "It is late, and will not count.\n", CAST)
+        before.ends("y\nq\n", "5 late  ada\n")
 
-    def test_notes_at_its_head(self) -> None:
+    def test_notes_at_its_head(self):
         self.act("extend", {"until": "2020-12-04T18:00:00+01:00"})
-        end = (
-            "the announced end of the vote, Friday, 4 December 2020, 18:00 (UTC+01:00), has passed"
-        )
-        self.assertIn(
-            "1 counted  ada\n",
-            self.end(
-                self.at_terminal(f"Note: {end}; what is entered still counts until "),
-                f"ada {RANKS}\ny\nq\n",
-            ),
-        )
+        self.at_terminal(PASSED).ends(f"ada {RANKS}\ny\nq\n", "1 counted  ada\n")
         self.act("announce", {"signed": True}, {"keyring": b"keys"})
         self.at_terminal(
             "Note: in this vote letters must be signed, and a desk checks no signature: "
@@ -237,68 +196,56 @@ class NamesAreCompleted(TerminalTest):
         *(f"elector-{number}" for number in range(11)),
     ]
 
-    def test_a_part_of_one_name(self) -> None:
+    def test_a_part_of_one_name(self):
         desk = self.at_terminal()
         # a tab, as whoever knows it from a shell types it
-        for typed in (
-            "Clara 1,2,4,3",
-            "lang\t1,2,4,3",
-            "LANGE Clara 1,2, 4,3",
-            "Clara Müller 1,2,4,3",
-            "clara muller\t1, 2,4,3",
-        ):
-            shown = desk.after(f"{typed}\n", CAST)
-            self.assertIn(
-                "` was completed to `clara-muller-lange`\nclara-muller-lange: At the lake, ", shown
-            )
+        completed = "completed to `clara-muller-lange`\n"
+        for typed in ("Clara ", "lang\t", "LANGE Clara ", "Clara Müller ", "clara muller\t"):
+            shown = f"` was {completed}clara-muller-lange: At the lake, "
+            desk.after(f"{typed}1, 2,4,3\n", shown, CAST)
             desk.after("n\n", "Ballot: ")
         # one that is whole
         self.assertRegex(desk.after("ben 1,2,4,3\n", CAST), "(?m)^(Ballot: )?ben: At the lake, ")
-        refused = (
-            "completed to `clara-muller-lange`\nIt would be refused: clara-muller-lange 1 2 4 3: "
-        )
-        self.assertIn(refused, desk.after("n\nclara 1 2 4 3\n", CAST_REFUSED))
+        refused = f"{completed}It would be refused: clara-muller-lange 1 2 4 3: "
+        desk.after("n\nclara 1 2 4 3\n", refused, CAST_REFUSED)
         # what has no ranks, and what is part of no name
         for typed in ("clara x", "anna lange 1,2,4,3", "Clara Meier 1,2,4,3"):
-            self.assertIn(
-                f"Ballot: It would be refused: {typed}: bad ",
-                desk.after(f"n\n{typed}\n", CAST_REFUSED),
-            )
-        self.end(desk, "n\nq\n")
+            desk.after(f"n\n{typed}\n", f"Ballot: It would be refused: {typed}: bad ", CAST_REFUSED)
+        desk.ends("n\nq\n")
 
-    def test_of_several_one_is_chosen(self) -> None:
+    def test_of_several_one_is_chosen(self):
         desk = self.at_terminal()
-        listed = "`anna` is part of 2 names:\n  1 anna-meier (Anna-Meier)\n  2 anna-schmidt (Anna-Schmidt)\n"
-        self.assertIn(
-            listed, desk.after("Anna 1,2,4,3\n", "Type the number of one, or n for none: ")
+        desk.after(
+            "Anna 1,2,4,3\n",
+            "`anna` is part of 2 names:\n  1 anna-meier (Anna-Meier)\n  2 anna-schmidt (Anna-Schmidt)\n",
+            "Type the number of one, or n for none: ",
         )
-        self.assertIn("\nanna-schmidt: At the lake, ", desk.after("2\n", CAST))
+        desk.after("2\n", "\nanna-schmidt: At the lake, ", CAST)
         desk.after("y\n", "Ballot: ")
         for answer in ("n\n", "3\n", "0\n", "\n", "ben 1,2,3,4\n", "\x04"):
             desk.after("anna 2,1,4,3\n", "for none: ")
             desk.after(answer, "It was not entered.\nBallot: ")
-        shown = desk.after("elector 1,2,4,3\n", "for none: ")
-        self.assertIn("`elector` is part of 11 names:\n  1 elector-0 (Elector-0)\n", shown)
-        self.assertTrue(
-            shown.endswith("\n  9 elector-8 (Elector-8)\nType the number of one, or n for none: "),
-            shown,
+        desk.after(
+            "elector 1,2,4,3\n",
+            "`elector` is part of 11 names:\n  1 elector-0 (Elector-0)\n",
+            "\n  9 elector-8 (Elector-8)\nType the number of one, or n for none: ",
         )
-        self.end(desk, "10\nq\n")
-        self.assertEqual(self.lines(), ["anna-schmidt 1,2,4,3"])
+        desk.ends("10\nq\n")
+        self.assert_lines("anna-schmidt 1,2,4,3")
 
-    def test_not_from_a_pipe_and_not_by_add(self) -> None:
+    def test_not_from_a_pipe_and_not_by_add(self):
         for command in ("desk", "add"):
             self.told(command, given="clara 1,2,4,3\n")
-        self.assertEqual(self.lines(), ["clara 1,2,4,3"] * 2)
+        self.assert_lines(*["clara 1,2,4,3"] * 2)
 
-    def test_no_code_is_completed(self) -> None:
+    def test_no_code_is_completed(self):
         self.act("codes", {"on_roll": True})
         desk = self.at_terminal("Type a ballot as CODE 2,3,4,1 (the code, then a rank ")
         for typed in ("clara 1,2,4,3", "anna 1,2,4,3", "anna-maier 1,2,4,3", "Meier 1,2,4,3"):
             shown = desk.after(f"{typed}\n", CAST_REFUSED)
             self.assertEqual([name for name in self.names if name in shown], [])
             desk.after("n\n", "Ballot: ")
-        self.end(desk, "q\n")
+        desk.ends("q\n")
 
 
 class WholeNames(TerminalTest):
@@ -306,178 +253,143 @@ class WholeNames(TerminalTest):
     # one has the name on the roll that is another's real name
     members += "Maximilian Mayer,max,\nMax,max-2,\n"
 
-    def test_they_come_before_parts(self) -> None:
+    def test_they_come_before_parts(self):
         """That of one elector alone is that elector's; of those who have it one is chosen."""
         desk = self.at_terminal()
-        shown = desk.after(f"Anna  Meier {RANKS}\n", CAST)
-        self.assertIn(f"` was changed to `meier {RANKS}`\nmeier: At the lake, ", shown)
+        changed = f"` was changed to `meier {RANKS}`\nmeier: At the lake, "
+        desk.after(f"Anna  Meier {RANKS}\n", changed, CAST)
         desk.after("n\n", "Ballot: ")
-        self.assertIn(
-            "`meier Anna` is part of 2 names:", desk.after(f"Meier Anna {RANKS}\n", "for none: ")
-        )
+        desk.after(f"Meier Anna {RANKS}\n", "`meier Anna` is part of 2 names:", "for none: ")
         desk.after("n\n", "Ballot: ")
-        listed = desk.after(f"Ben Müller {RANKS}\n", "for none: ")
-        self.assertIn(
-            "` is part of 2 names:\n  1 ben-1 (Ben Müller)\n  2 ben-2 (Ben Müller)\n", listed
-        )
-        self.assertIn("\nben-2: At the lake, ", desk.after("2\n", CAST))
+        listed = "` is part of 2 names:\n  1 ben-1 (Ben Müller)\n  2 ben-2 (Ben Müller)\n"
+        desk.after(f"Ben Müller {RANKS}\n", listed, "for none: ")
+        desk.after("2\n", "\nben-2: At the lake, ", CAST)
         listed = "` is part of 2 names:\n  1 max (Maximilian Mayer)\n  2 max-2 (Max)\n"
-        self.assertIn(listed, desk.after(f"n\nMax {RANKS}\n", "for none: "))
-        self.assertIn("\nmax-2: At the lake, ", desk.after("2\n", CAST))
+        desk.after(f"n\nMax {RANKS}\n", listed, "for none: ")
+        desk.after("2\n", "\nmax-2: At the lake, ", CAST)
         # as it stands on the roll it is that of one
-        self.assertRegex(
-            desk.after(f"n\nmax {RANKS}\n", CAST), "(?m)^(Ballot: )?max: At the lake, "
-        )
-        self.end(desk, "n\nq\n")
+        self.assertRegex(desk.after(f"n\nmax {RANKS}\n", CAST), "(?m)^(Ballot: )?max: At the ")
+        desk.ends("n\nq\n")
 
 
 class FromAPipe(CalledTest):
-    def test_each_line_is_answered_at_once(self) -> None:
-        desk = self.desk()
-        for number, name in enumerate(("ada", "ben", "cleo"), start=1):
-            self.assertEqual(
-                (self.answer(desk, f"{name} {RANKS}\n"), len(self.lines())),
-                (f"{number} counted  {name}: {LAKE}\n", number),
-            )
-        self.told("close")
-        self.assertTrue(self.answer(desk, f"dan {RANKS}\n").startswith("4 late  dan: "))
-        output, faults = desk.communicate()
-        self.assertIn("This desk has entered 4 lines (3 counted, 1 late).\n", output)
-        self.assertEqual(
-            (desk.returncode, faults, len(self.lines()), self.late_lines()),
-            (0, "", 3, [f"dan {RANKS}"]),
-        )
-
-    def answer(self, desk: subprocess.Popen[str], text: str) -> str:
-        """The next line of a desk after it is sent this."""
+    def answer(self, desk: subprocess.Popen[str], text: str, reply: str):
+        """The next line of a desk after it is sent this begins so."""
         desk.stdin.write(text)
         desk.stdin.flush()
-        return desk.stdout.readline()
+        self.assertRegex(desk.stdout.readline(), f"^{reply}")
 
-    def test_line_ends_that_come_in_parts(self) -> None:
+    def test_each_line_is_answered_at_once(self):
         desk = self.desk()
-        self.assertTrue(self.answer(desk, "\ufeffada 1,2,4,3\r").startswith("1 counted  ada: "))
+        for number, name in enumerate(("ada", "ben", "cleo"), start=1):
+            self.answer(desk, f"{name} {RANKS}\n", f"{number} counted  {name}: {LAKE}\n$")
+            self.assertEqual(len(self.lines()), number)
+        self.told("close")
+        self.answer(desk, f"dan {RANKS}\n", "4 late  dan: ")
+        output, faults = desk.communicate()
+        self.assertIn("This desk has entered 4 lines (3 counted, 1 late).\n", output)
+        self.assertEqual((desk.returncode, faults), (0, ""))
+        self.assertEqual((len(self.lines()), self.late_lines()), (3, [f"dan {RANKS}"]))
+
+    def test_line_ends_that_come_in_parts(self):
+        desk = self.desk()
+        self.answer(desk, "\ufeffada 1,2,4,3\r", "1 counted  ada: ")
         desk.stdin.write("\nben 1,2")
         desk.stdin.flush()
         time.sleep(0.1)
         output, _ = desk.communicate(",4,3\rcleo 1,2,4,3")
-        self.assertEqual(
-            re.findall(r"(?m)^\d (\w+  \w+): |(it is empty)", output),
-            [("counted  ben", ""), ("counted  cleo", "")],
-        )
-        self.assertEqual(self.lines(), ["ada 1,2,4,3", "ben 1,2,4,3", "cleo 1,2,4,3"])
+        found = re.findall(r"(?m)^\d (\w+  \w+): |(it is empty)", output)
+        self.assertEqual(found, [("counted  ben", ""), ("counted  cleo", "")])
+        self.assert_lines(*(f"{name} 1,2,4,3" for name in ("ada", "ben", "cleo")))
 
-    def test_lines_are_taken_as_add_takes_them(self) -> None:
-        output = self.told("desk", given=b"Ada 1,2,4,3\r\n\nq\ny\ngsu 1,2,4,3\n")
-        changed = "desk:1: `Ada 1,2,4,3` was changed to `ada 1,2,4,3`\n"
+    def test_lines_are_taken_as_add_takes_them(self):
         words = "2 bad shape  q: column 2: end of line; a ballot has a space there, or more of the name: a to z, 0 to 9, . or -\n"
-        empty, unknown = (
+        self.tells(
+            "desk",
+            "desk:1: `Ada 1,2,4,3` was changed to `ada 1,2,4,3`\n1 counted  ada: ",
             "desk:2: it is empty, and was left out\n",
+            words,
             "gsu is not on the roll\nA ballot line of this poll: ",
+            given="Ada 1,2,4,3\r\n\nq\ny\ngsu 1,2,4,3\n",
         )
-        for part in (f"{changed}1 counted  ada: ", empty, words, unknown):
-            self.assertIn(part, output)
-        self.assertEqual(self.lines(), ["ada 1,2,4,3", "q", "y", "gsu 1,2,4,3"])
+        self.assert_lines("ada 1,2,4,3", "q", "y", "gsu 1,2,4,3")
         # a letter is told, and not entered
-        letter = b"Dear secretary, " * 13_000
-        output = self.told("desk", given=b"ada 1,2,3,4\n" + letter + b"\nben 1,2,3,4\n")
+        letter = "Dear secretary, " * 13_000
         said = f"desk:2: the line has {len(letter)} bytes, and a ballot has a few dozen; it was not entered.\n"
-        self.assertIn(f"{said}  To add it from a file: debvote-election add --force FILE\n", output)
-        self.assertIn("This desk has entered 2 lines (1 replaced, 1 counted).", output)
+        self.tells(
+            "desk",
+            f"{said}  To add it from a file: debvote-election add --force FILE\n",
+            "This desk has entered 2 lines (1 replaced, 1 counted).",
+            given=f"ada 1,2,3,4\n{letter}\nben 1,2,3,4\n",
+        )
         self.assertEqual(self.lines()[4:], ["ada 1,2,3,4", "ben 1,2,3,4"])
         before = self.last_act()
         for given in ("", "\n\n"):
-            self.assertIn("This desk has entered 0 lines.\n", self.told("desk", given=given))
+            self.tells("desk", "This desk has entered 0 lines.\n", given=given)
         self.assertEqual(self.last_act(), before)
 
-    def test_the_head_of_a_table_stops_it(self) -> None:
+    def test_the_head_of_a_table_stops_it(self):
         """The columns may stand in another order than the options. Nothing of what came in one go with it goes in."""
         said = "desk: the lines look like a table; its columns may stand in another order than the options; "
-        rows = "Name None,Sell,Repair,Dinghy\nada 4,1,2,3\n"
-        self.assert_refused(
-            ("desk",),
-            4,
-            said,
-            "write each line as a name and its ranks in the order of the options",
-            given=rows,
-        )
-        self.assertEqual(self.lines(), [])
+        head, row = "Name None,Sell,Repair,Dinghy", "ada 4,1,2,3\n"
+        right = "write each line as a name and its ranks in the order of the options"
+        self.assert_refused("desk", 4, said, right, given=f"{head}\n{row}")
+        self.assert_lines()
         desk = self.desk()
-        self.assertTrue(
-            self.answer(desk, "Name None,Sell,Repair,Dinghy\n").startswith("1 bad shape  Name")
-        )
-        output, faults = desk.communicate("ada 4,1,2,3\n")
-        self.assertIn(said, output + (faults or ""))
-        self.assertEqual(self.lines(), ["Name None,Sell,Repair,Dinghy"])
-        self.assert_refused(("desk",), 4, said, given=f"ada 4,1,2,3\n{rows}")
+        self.answer(desk, f"{head}\n", "1 bad shape  Name")
+        self.assertIn(said, "".join(desk.communicate(row)))
+        self.assert_lines(head)
+        self.assert_refused("desk", 4, said, given=f"{row}{head}\n{row}")
         desk = self.desk()
-        for line, reply in (
-            (f"ben {RANKS}", "2 counted  ben"),
-            ("Name A/B/C/D", "3 bad shape  Name"),
-        ):
-            self.assertTrue(self.answer(desk, f"{line}\n").startswith(reply))
-        self.assertIn(said, "".join(desk.communicate("dan\nada 4,1,2,3\n")))
+        self.answer(desk, f"ben {RANKS}\n", "2 counted  ben")
+        self.answer(desk, "Name A/B/C/D\n", "3 bad shape  Name")
+        self.assertIn(said, "".join(desk.communicate(f"dan\n{row}")))
         self.assertEqual(len(self.lines()), 3)
         # a refused ballot is no head
-        self.told("desk", given=f"Mrs Lovelace {RANKS}\nada {RANKS}\nName 1,1,2,3\nben {RANKS}\n")
+        self.cast(f"Mrs Lovelace {RANKS}", f"ada {RANKS}", "Name 1,1,2,3", f"ben {RANKS}")
 
-    def test_many_lines_in_one_go(self) -> None:
+    def test_many_lines_in_one_go(self):
         lines = [f"ada {number // 99 + 1},{number % 99 + 1},1,2" for number in range(9000)]
-        envelopes = [
-            int(found)
-            for found in re.findall(
-                r"(?m)^(\d+) (?:counted|replaced)  ", self.told("desk", given="\n".join(lines))
-            )
-        ]
-        self.assertEqual((envelopes, self.lines()), (list(range(1, 9001)), lines))
+        found = re.findall(r"(?m)^(\d+) (?:counted|replaced)  ", self.cast(*lines))
+        self.assertEqual((found, self.lines()), ([*map(str, range(1, 9001))], lines))
 
-    def test_lines_that_came_before_are_cast_again(self) -> None:
-        self.told(
-            "add",
-            given="".join(f"{name} {RANKS}\n{name} {OTHER_RANKS}\n" for name in self.names[:4]),
-        )
-        replies = re.findall(
-            r"(?m)^\d+ (counted|replaced)  (\w+): ",
-            self.told("desk", given="".join(f"{name} {RANKS}\n" for name in self.names)),
-        )
-        self.assertEqual(
-            replies,
-            [("replaced" if name in self.names[:4] else "counted", name) for name in self.names],
-        )
+    def test_lines_that_came_before_are_cast_again(self):
+        first = self.names[:4]
+        self.cast(*(f"{name} {ranks}" for name in first for ranks in (RANKS, OTHER_RANKS)))
+        said = self.cast(*(f"{name} {RANKS}" for name in self.names))
+        wanted = [("replaced" if name in first else "counted", name) for name in self.names]
+        self.assertEqual(re.findall(r"(?m)^\d+ (counted|replaced)  (\w+): ", said), wanted)
 
-    def test_an_interrupt_ends_it_as_q_does(self) -> None:
+    def test_an_interrupt_ends_it_as_q_does(self):
         desk = self.desk()
-        self.assertTrue(self.answer(desk, "ada 1,2,4,3\nben 1,2").startswith("1 counted  ada: "))
+        self.answer(desk, "ada 1,2,4,3\nben 1,2", "1 counted  ada: ")
         desk.send_signal(signal.SIGINT)
         output, faults = desk.communicate()
         self.assertIn("This desk has entered 1 line (1 counted).\n", output)
         self.assertEqual((desk.returncode, faults, self.lines()), (0, "", [f"ada {RANKS}"]))
 
-    def test_an_output_that_is_gone(self) -> None:
+    def test_an_output_that_is_gone(self):
         desk = self.desk()
-        self.answer(desk, "ada 1,2,4,3\n")
+        self.answer(desk, "ada 1,2,4,3\n", "1 counted")
         desk.stdout.close()
         desk.stdin.write("ben 1,2,4,3\n")
         desk.stdin.flush()
-        faults = desk.stderr.read()
+        ended = elections.Ended("", desk.stderr.read(), desk.wait())
         said = (
             "the output failed; the ballots to be reported were entered nevertheless (envelope 2)"
         )
-        self.assert_fault(elections.Ended("", faults, desk.wait()), 7, said)
-        self.assertEqual(self.lines(), ["ada 1,2,4,3", "ben 1,2,4,3"])
+        self.assert_fault(ended, 7, said)
+        self.assert_lines("ada 1,2,4,3", "ben 1,2,4,3")
 
-    def test_an_add_beside_desks(self) -> None:
-        desk = self.desk()
-        self.write(
-            "many", "".join(f"ben {a},{b},1,2\n" for a in range(1, 40) for b in range(1, 40))
-        )
+    def test_an_add_beside_desks(self):
+        desk, lines = self.desk(), [f"ben {a},{b},1,2" for a in range(1, 40) for b in range(1, 40)]
+        self.write("many", "\n".join(lines))
         words = [sys.executable, elections.ELECTION, "add", "many"]
         adding = subprocess.Popen(
             words, cwd=self.folder, env=elections.environment(), stdout=subprocess.DEVNULL
         )
         while adding.poll() is None:
-            self.assertRegex(self.answer(desk, f"ada {RANKS}\n"), r"^\d+ (counted|replaced)  ada: ")
+            self.answer(desk, f"ada {RANKS}\n", r"\d+ (counted|replaced)  ada: ")
         desk.communicate()
-        self.assertEqual(
-            (adding.returncode, sum(line.startswith("ben ") for line in self.lines())), (0, 39 * 39)
-        )
+        entered = [line for line in self.lines() if line.startswith("ben ")]
+        self.assertEqual((adding.returncode, entered), (0, lines))

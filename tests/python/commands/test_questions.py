@@ -1,24 +1,24 @@
 """Several questions before ballots come: `new --questions`, what `check` finds, codes, and the files of a call that is made and taken back."""
 
 import hashlib
-import pathlib
 import shutil
-from collections.abc import Callable
+
+from debvote_tools.poll.sealed import read_plain
 
 from tests.support import elections
-from tests.support.program import PROGRAM
+from tests.support.called import CalledTest
 
 FEE = 'title = "Raise the fee"\noptions = ["Yes"]\nratios = [1]\ndefault = "No"\nquorum = 0\n'
 POLLS = {"A": FEE, "B": elections.POLL, "C": FEE.replace("Raise the fee", "A new roof")}
 MEMBERS = "who,mail\nAda,ada@club.example\nBen B.,ben@club.example\nCleo,cleo@club.example\nA,a@club.example\n"
 
 
-class QuestionsTest(elections.ElectionTest):
+class QuestionsTest(CalledTest):
     """A test of a folder with three questions, filled in, and a roll."""
 
     polls = POLLS
 
-    def begin(self) -> None:
+    def begin(self):
         self.done("new", "--questions", "3", str(self.folder), cwd=self.scratch)
         self.write("members.csv", MEMBERS)
         self.write("polls/title.txt", "Assembly 2026\n")
@@ -27,12 +27,8 @@ class QuestionsTest(elections.ElectionTest):
         self.done("roll")
 
     def sealed(self) -> list[str]:
-        return [
-            str(name)
-            for (name,) in self.rows(
-                "SELECT name FROM sealed WHERE act = (SELECT max(act) FROM sealed) ORDER BY name"
-            )
-        ]
+        query = "SELECT name FROM sealed WHERE act = (SELECT max(act) FROM sealed) ORDER BY name"
+        return [str(name) for name, in self.rows(query)]
 
     def called(self) -> list[str]:
         """The files of the call, each as the list of its checksums has it."""
@@ -42,216 +38,149 @@ class QuestionsTest(elections.ElectionTest):
             self.assertEqual((ended.output, ended.faults, ended.status), ("", "", 0))
         return sorted(str(file.relative_to(folder)) for file in folder.rglob("*"))
 
+    def changed(self, files: dict[str, str | None]):
+        """Writes these files into the folder, or takes them away."""
+        for name, text in files.items():
+            file = self.folder / name
+            file.parent.mkdir(parents=True, exist_ok=True)
+            if text is None:
+                file.unlink()
+            else:
+                file.write_text(text)
+
 
 class New(elections.ElectionTest):
-    def begin(self) -> None:
+    def begin(self):
         self.folder.mkdir()
 
-    def test_each_question_has_a_poll_to_fill_in(self) -> None:
-        said = self.done("new", "--questions", "10", "spring").output
+    def test_each_question_has_a_poll_to_fill_in(self):
+        said = self.done("new --questions 10 spring").output
         self.assertIn("with polls/title.txt and polls/A.toml to K.toml and members.csv.", said)
-        self.assertEqual(
-            self.done("new", "--questions", "1", "alone").output,
-            self.done("new", "plain").output.replace("plain", "alone"),
+        alone, plain = (
+            self.done(f"new {words}").output for words in ("--questions 1 alone", "plain")
         )
+        self.assertEqual(alone, plain.replace("plain", "alone"))
         polls = self.folder / "spring" / "polls"
         modes = {file.name: file.stat().st_mode & 0o777 for file in polls.iterdir()}
-        self.assertEqual(
-            modes, dict.fromkeys(["title.txt", *(f"{label}.toml" for label in "ABCDEFGHJK")], 0o600)
-        )
-        self.assertEqual(
-            {file.name for file in polls.parent.iterdir()}, {"election.db", "members.csv", "polls"}
-        )
-        plain = (self.folder / "plain" / "poll.toml").read_text()
+        names = ["title.txt", *(f"{label}.toml" for label in "ABCDEFGHJK")]
+        self.assertEqual(modes, dict.fromkeys(names, 0o600))
+        there = {file.name for file in polls.parent.iterdir()}
+        self.assertEqual(there, {"election.db", "members.csv", "polls"})
+        of_one = (self.folder / "plain" / "poll.toml").read_text()
         for label in "AK":
             text = (polls / f"{label}.toml").read_text()
             self.assertIn(f"file texts/{label}/1.txt, about option 2 in texts/{label}/2.txt", text)
             self.assertIn(f"`ada {label} 1,1`; `ada {label} 1,2` is a yes", text)
-            self.assertEqual(
-                text.replace(f"texts/{label}/", "texts/").replace(f"ada {label} ", "ada "), plain
-            )
+            text = text.replace(f"texts/{label}/", "texts/").replace(f"ada {label} ", "ada ")
+            self.assertEqual(text, of_one)
 
-    def test_how_many(self) -> None:
+    def test_how_many(self):
         for count in ("0", "25", "x", "-1"):
             ended = self.election("new", "--questions", count, "spring")
             self.assertEqual((ended.status, [*self.folder.iterdir()]), (2, []), ended)
-        self.assertIn(
-            "invalid choice: 25", self.election("new", "--questions", "25", "spring").faults
-        )
-        self.done("new", "--questions", "24", "spring")
+        self.assertIn("invalid choice: 25", self.election("new --questions 25 spring").faults)
+        self.done("new --questions 24 spring")
         self.assertEqual(len([*(self.folder / "spring" / "polls").glob("[A-Z].toml")]), 24)
 
 
 class Check(QuestionsTest):
-    def test_each_question_is_shown(self) -> None:
-        self.folder.joinpath("texts", "A").mkdir(parents=True)
-        self.write("texts/A/1.txt", "We need it.\n")
-        said = self.done("check").output
-        for part in (
+    def test_each_question_is_shown(self):
+        self.changed({"texts/A/1.txt": "We need it.\n"})
+        self.tells(
+            "check",
             "The polls are in order: 3 questions, 4 electors.\nTitle: Assembly 2026\nQuestion A: Raise the fee\n  1  Yes (majority ratio 1); text: 3 words from texts/A/1.txt\n  2  No (the default option)\nQuestion B: Where we meet in spring\n",
             "A: Quorum: none\nB: Quorum: 1 vote (1Q): ",
             "Note: these names end in a letter that may be read as the label of a question: ben-b (Ben B.), a (A)\n",
-        ):
-            self.assertIn(part, said)
-
-    def test_nobody_is_named_in_an_election_of_one_question(self) -> None:
-        shutil.rmtree(self.folder / "polls")
-        self.write("poll.toml", elections.POLL)
-        self.assertNotIn("Note: these names", self.done("check").output)
-
-    def assert_named(self, *parts: str, change: Callable[[pathlib.Path], object]) -> None:
-        """After a change of the folder `check` and `call` stop at one fault, with these words, and write nothing."""
-        whole = self.scratch / "whole"
-        shutil.copytree(self.folder, whole)
-        change(self.folder)
-        before = self.contents()
-        for command in ("check", "call"):
-            ended = self.election(command)
-            self.assertEqual(len(ended.faults.splitlines()), 1, ended)
-            self.assertEqual([part for part in parts if part not in ended.faults], [], ended)
-            self.assertIn(ended.status, (2, 3, 9))
-        self.assertEqual(self.contents(), before)
-        shutil.rmtree(self.folder)
-        whole.rename(self.folder)
-
-    def test_faults_of_the_folder(self) -> None:
-        def texts(folder: pathlib.Path) -> None:
-            (folder / "texts" / "D").mkdir(parents=True)
-
-        def loose(folder: pathlib.Path) -> None:
-            (folder / "texts").mkdir()
-            (folder / "texts" / "1.txt").write_text("x")
-
-        def fewer(folder: pathlib.Path) -> None:
-            for label in "BC":
-                (folder / "polls" / f"{label}.toml").unlink()
-
-        def write(name: str, text: str) -> Callable[[pathlib.Path], object]:
-            return lambda folder: (folder / name).write_text(text)
-
-        changes: dict[tuple[str, ...], Callable[[pathlib.Path], object]] = {
-            ("polls: there is no poll for B, and labels have no gap",): lambda folder: (
-                folder / "polls" / "B.toml"
-            ).unlink(),
-            ("polls: there is no poll for A, and",): lambda folder: (
-                folder / "polls" / "A.toml"
-            ).rename(folder / "polls" / "D.toml"),
-            ("polls: it has fewer than two polls",): fewer,
-            ("polls/I.toml: it is not the poll of a question", "no I and no O"): write(
-                "polls/I.toml", FEE
-            ),
-            ("polls/d.toml: it is not the poll of a question",): write("polls/d.toml", FEE),
-            ("polls/AB.toml: it is not the poll of a question",): write("polls/AB.toml", FEE),
-            ("polls/notes: it is not the poll of a question",): write("polls/notes", "x"),
-            ("poll.toml: it is beside the folder polls", "remove one of the two"): write(
-                "poll.toml", FEE
-            ),
-            ("texts/D: no question has this label", "texts/A/1.txt"): texts,
-            ("texts/1.txt: no question has this label",): loose,
-            ("polls/title.txt: No such file",): lambda folder: (
-                folder / "polls" / "title.txt"
-            ).unlink(),
-            ("polls/title.txt: it is empty", "one line"): write("polls/title.txt", " \n"),
-            ("polls/title.txt: it has the character U+000A",): write(
-                "polls/title.txt", "Assembly\n2026\n"
-            ),
-            ("polls/title.txt: it has 201 characters",): write("polls/title.txt", "x" * 201),
-            ("polls/title.txt: it has the mark of a vote",): write(
-                "polls/title.txt", f"Assembly [{elections.ANY_MARK}]"
-            ),
-            ("polls: only some questions are secret: B",): write(
-                "polls/B.toml", f"secret = true\n{FEE}"
-            ),
-            ("polls/B.toml: it does not say yet what can be chosen (options)",): write(
-                "polls/B.toml", FEE.replace('["Yes"]', "[]").replace("[1]", "[]")
-            ),
-            ("polls/A.toml: the option of a motion begins with a word for no",): write(
-                "polls/A.toml", f"motion = true\n{FEE.replace('Yes', 'No fee')}"
-            ),
-            ("polls/C.toml: it can't be read as TOML",): write("polls/C.toml", "title = \n"),
-            ("polls/C.toml: the key `roll` is not written here",): write(
-                "polls/C.toml", f"roll = []\n{FEE}"
-            ),
-        }
-        for parts, change in changes.items():
-            with self.subTest(parts):
-                self.assert_named(*parts, change=change)
-        # what an editor leaves is passed over
-        for name in ("polls/A.toml~", "polls/.B.toml.swp"):
-            self.write(name, "x")
-        self.done("check")
-
-    def test_faults_of_all_polls_are_told_at_once(self) -> None:
-        self.write("polls/A.toml", FEE.replace("ratios = [1]", "ratios = [11]"))
-        self.write("polls/C.toml", FEE.replace("quorum = 0", "quorum = 11"))
-        self.write("polls/title.txt", "")
-        faults = self.election("check").faults
-        self.assertEqual(
-            [
-                name
-                for name in ("polls/A.toml: ", "polls/C.toml: ", "polls/title.txt: ")
-                if name not in faults
-            ],
-            [],
         )
+        # nobody is named in an election of one question
+        for folder in ("polls", "texts"):
+            shutil.rmtree(self.folder / folder)
+        self.write("poll.toml", elections.POLL)
+        self.assertNotIn("Note: these names", self.told("check"))
+
+    def test_faults_of_the_folder(self):
+        """After a change of the folder `check` stops at one fault, with these words, and so does `call`, which writes nothing."""
+        title, whole = "polls/title.txt", self.scratch / "whole"
+        no_poll = "it is not the poll of a question"
+        shutil.copytree(self.folder, whole)
+        for said, files in {
+            "polls: there is no poll for B, and labels have no gap": {"polls/B.toml": None},
+            "polls: there is no poll for A, and": {"polls/A.toml": None, "polls/D.toml": FEE},
+            "polls: it has fewer than two polls": {"polls/B.toml": None, "polls/C.toml": None},
+            f"polls/I.toml: {no_poll}; name it A.toml, B.toml and so on (there is no I and no O)": {
+                "polls/I.toml": FEE
+            },
+            f"polls/d.toml: {no_poll}": {"polls/d.toml": FEE},
+            f"polls/AB.toml: {no_poll}": {"polls/AB.toml": FEE},
+            f"polls/notes: {no_poll}": {"polls/notes": "x"},
+            "poll.toml: it is beside the folder polls": {"poll.toml": FEE},
+            "texts/D: no question has this label": {"texts/D/1.txt": "x"},
+            "texts/1.txt: no question has this label": {"texts/1.txt": "x"},
+            f"{title}: No such file": {title: None},
+            f"{title}: it is empty": {title: " \n"},
+            f"{title}: it has the character U+000A": {title: "Assembly\n2026\n"},
+            f"{title}: it has 201 characters": {title: "x" * 201},
+            f"{title}: it has the mark of a vote": {title: f"Assembly [{elections.ANY_MARK}]"},
+            "polls: only some questions are secret: B": {"polls/B.toml": f"secret = true\n{FEE}"},
+            "polls/B.toml: it does not say yet what can be chosen (options)": {
+                "polls/B.toml": FEE.replace('["Yes"]', "[]").replace("[1]", "[]")
+            },
+            "polls/A.toml: the option of a motion begins with a word for no": {
+                "polls/A.toml": f"motion = true\n{FEE.replace('Yes', 'No fee')}"
+            },
+            "polls/C.toml: it can't be read as TOML": {"polls/C.toml": "title = \n"},
+            "polls/C.toml: the key `roll` is not written here": {
+                "polls/C.toml": f"roll = []\n{FEE}"
+            },
+        }.items():
+            self.changed(files)
+            before = self.contents()
+            for command in ("check", "call") if title in files else ("check",):
+                ended = self.election(command)
+                self.assertIn(said, ended.faults)
+                self.assertEqual(len(ended.faults.splitlines()), 1, ended)
+                self.assertIn(ended.status, (2, 3, 9))
+            self.assertEqual(self.contents(), before)
+            shutil.rmtree(self.folder)
+            shutil.copytree(whole, self.folder)
+        # what an editor leaves is passed over
+        self.changed({"polls/A.toml~": "x", "polls/.B.toml.swp": "x"})
+        self.done("check")
+        # faults of all polls are told at once
+        more = {"polls/A.toml": FEE.replace("[1]", "[11]"), title: ""}
+        self.changed(more | {"polls/C.toml": FEE.replace("quorum = 0", "quorum = 11")})
+        faults = self.election("check").faults
+        for name in ("polls/A.toml: ", "polls/C.toml: ", f"{title}: "):
+            self.assertIn(name, faults)
 
 
 class Call(QuestionsTest):
-    def test_the_files_and_their_checksum(self) -> None:
-        self.assertIn(
-            "Checksum of the polls: ", self.done("call", "--to", "vote@club.example").output
-        )
-        names = [
-            "A",
-            "A/poll.toml",
-            "B",
-            "B/poll.toml",
-            "C",
-            "C/poll.toml",
-            "SHA256SUMS",
-            "call.txt",
-            "index.html",
-            "polls.sha256",
-            "title.txt",
-        ]
-        self.assertEqual(self.called(), names)
-        self.assertEqual(
-            {(self.folder / "call" / name).stat().st_mode & 0o777 for name in "ABC"}, {0o755}
-        )
+    def test_the_files_and_their_checksum(self):
+        self.tells("call --to vote@club.example", "Checksum of the polls: ")
+        polls = [f"{label}/poll.toml" for label in "ABC"]
+        names = [*polls, "SHA256SUMS", "call.txt", "index.html", "polls.sha256", "title.txt"]
+        self.assertEqual(self.called(), sorted([*"ABC", *names]))
+        modes = {(self.folder / "call" / name).stat().st_mode & 0o777 for name in "ABC"}
+        self.assertEqual(modes, {0o755})
         checksum = hashlib.sha256(self.read("call/polls.sha256")).hexdigest()
         for file in ("call.txt", "index.html"):
-            self.assertIn(checksum, self.read(f"call/{file}").decode())
-        self.assertEqual(
-            self.sealed(),
-            sorted(
-                [
-                    *(f"call/{name}" for name in names if len(name) > 1),
-                    "poll A",
-                    "poll B",
-                    "poll C",
-                    "title",
-                ]
-            ),
-        )
-        [(quorums,)] = self.rows(
-            "SELECT json_extract(detail, '$.quorum_votes') FROM act WHERE name = 'call'"
-        )
-        self.assertEqual(quorums, '{"A":0,"B":1,"C":0}')
+            self.assertIn(checksum, self.text(f"call/{file}"))
+        sealed = [*(f"call/{name}" for name in names), "poll A", "poll B", "poll C", "title"]
+        self.assertEqual(self.sealed(), sorted(sealed))
+        self.assertEqual(self.book.acts()[-1].detail["quorum_votes"], {"A": 0, "B": 1, "C": 0})
         # what is lost is made again, with the same bytes
         before = self.contents()
         shutil.rmtree(self.folder / "call" / "B")
         self.done("call")
         self.assertEqual(self.contents(), before)
         # debvote reads each of the polls
-        for label in "ABC":
-            self.assertEqual(
-                self.run_program(PROGRAM, "check", "--poll", f"call/{label}/poll.toml").status, 0
-            )
+        for name in polls:
+            self.assertEqual(self.debvote("check", "--poll", f"call/{name}").status, 0)
 
-    def test_a_call_that_is_taken_back_leaves_no_file(self) -> None:
+    def test_a_call_that_is_taken_back_leaves_no_file(self):
         self.done("call")
         self.write("call/C/notes", "of somebody else")
-        self.done("call", "--take-back")
+        self.done("call --take-back")
         self.assertEqual(
             sorted(file.name for file in (self.folder / "call").rglob("*")), ["C", "notes"]
         )
@@ -260,96 +189,68 @@ class Call(QuestionsTest):
         self.done("call")
         self.assertEqual([name for name in self.called() if len(name) == 1], ["A", "B"])
 
-    def test_a_question_more_or_another_title_makes_another_mark(self) -> None:
+    def test_a_question_more_or_another_title_makes_another_mark(self):
         marks = set()
-        for change in (
-            lambda: None,
-            lambda: self.write("polls/title.txt", "Assembly 2027"),
-            lambda: (self.folder / "polls" / "C.toml").unlink(),
-        ):
-            change()
+        for files in ({}, {"polls/title.txt": "Assembly 2027"}, {"polls/C.toml": None}):
+            self.changed(files)
             self.done("call")
             marks.add(hashlib.sha256(self.read("call/polls.sha256")).hexdigest()[:16])
-            self.done("call", "--take-back")
+            self.done("call --take-back")
         self.assertEqual(len(marks), 3)
 
-    def test_a_motion_among_them(self) -> None:
+    def test_a_motion_among_them_and_texts(self):
+        self.changed({f"texts/{label}/1.txt": f"About {label}.\nA line\n" for label in "AB"})
         self.write("polls/C.toml", f"motion = true\n{self.polls['C']}")
-        self.assertIn("A motion, yes: Yes, no: No\n", self.done("check").output)
+        self.tells("check", "A motion, yes: Yes, no: No\n")
         self.done("call")
-        self.assertEqual(
-            [name for name in self.sealed() if name.startswith("motion")], ["motion C"]
-        )
-        page = self.read("call/index.html").decode()
+        sealed = [name for name in self.sealed() if name.startswith("motion")]
+        self.assertEqual(sealed, ["motion C"])
+        page = self.text("call/index.html")
         self.assertEqual([f'name="Answer{label}"' in page for label in "ABC"], [False, False, True])
-
-    def test_texts(self) -> None:
-        for label in "AB":
-            (self.folder / "texts" / label).mkdir(parents=True)
-            self.write(f"texts/{label}/1.txt", f"About {label}.\nA line\n")
-        self.done("call")
         letter = self.read("call/call.txt").decode()
-        self.assertIn("Question A: Raise the fee\n\nOption 1: Yes\n\nAbout A.\nA line\n", letter)
-        self.assertIn(
+        for said in (
+            "Question A: Raise the fee\n\nOption 1: Yes\n\nAbout A.\nA line\n",
             "Question B: Where we meet in spring\n\nOption 1: At the lake\n\nAbout B.\nA line\n",
-            letter,
-        )
+        ):
+            self.assertIn(said, letter)
 
 
 class Secret(QuestionsTest):
     polls = {label: f"secret = true\n{poll}" for label, poll in POLLS.items()}
 
-    def test_codes_on_the_roll_are_refused(self) -> None:
+    def test_codes_on_the_roll_are_refused(self):
+        """Also if a poll becomes several with codes on the roll."""
         before = self.contents()
-        ended = self.election("codes", "--on-roll")
-        self.assert_fault(
-            ended,
-            9,
-            "--on-roll: with several questions the row of all votes under one code would be a mark",
+        said = (
+            "--on-roll: with several questions the row of all votes under one code would be a mark"
         )
+        self.refused("codes --on-roll", said)
         self.assertEqual(self.contents(), before)
-
-    def test_a_poll_that_becomes_several_with_codes_on_the_roll_is_refused(self) -> None:
         polls = self.folder / "polls"
         polls.rename(self.scratch / "polls")
         self.write("poll.toml", self.polls["A"])
-        self.done("codes", "--on-roll")
+        self.done("codes --on-roll")
         (self.scratch / "polls").rename(polls)
         (self.folder / "poll.toml").unlink()
         before = self.contents()
+        said = "polls: codes are on the roll, and all votes under one code in a row would be a mark"
         for command in ("check", "call", "codes"):
-            self.assertIn(
-                "polls: codes are on the roll, and all votes under one code in a row would be a mark",
-                self.election(command).faults,
-            )
+            self.assertIn(said, self.election(command).faults)
         self.assertEqual(self.contents(), before)
 
-    def test_no_folder_has_an_alias_of_another_one(self) -> None:
+    def test_no_folder_has_an_alias_of_another_one(self):
         self.done("codes")
-        self.done("call", "--yes")
-        rolls = [set(self.rolled(label)) for label in "ABC"]
-        self.assertEqual((len(set.union(*rolls)), {len(roll) for roll in rolls}), (12, {4}))
-        table = self.read("private/codes.csv").decode()
-        self.assertEqual(table.splitlines()[0], "name,who,mail,code,mark")
-        public = b"".join(
-            (self.folder / "call" / name).read_bytes()
-            for name in self.called()
-            if (self.folder / "call" / name).is_file()
-        )
-        for row in table.splitlines()[1:]:
+        self.done("call --yes")
+        rolls = [list(read_plain(self.read(f"call/{label}/poll.toml")).roll) for label in "ABC"]
+        self.assertEqual(rolls, [sorted(roll) for roll in rolls])
+        self.assertEqual(([*map(len, rolls)], len({*sum(rolls, [])})), ([4, 4, 4], 12))
+        head, *rows = self.read("private/codes.csv").decode().splitlines()
+        self.assertEqual(head, "name,who,mail,code,mark")
+        public = " ".join(self.text(f"call/{name}") for name in self.called() if "." in name)
+        for row in rows:
             name, _, _, code, _ = row.split(",")
-            self.assertNotIn(code.encode(), public)
-            self.assertNotIn(f'"{name}"'.encode(), public)
-        slips = self.read("private/slips.html").decode()
+            self.assertNotIn(code, public)
+            self.assertNotIn(f'"{name}"', public)
+        slips = self.text("private/slips.html")
         self.assertIn("<code>ben-b<br>A _,_<br>B _,_,_,_<br>C _,_</code>", slips)
         self.assertIn("Question C: <bdi>A new roof</bdi>", slips)
-
-    def rolled(self, label: str) -> list[str]:
-        [line] = [
-            line
-            for line in self.read(f"call/{label}/poll.toml").decode().splitlines()
-            if line.startswith("roll = ")
-        ]
-        found = line.removeprefix('roll = ["').removesuffix('"]').split('", "')
-        self.assertEqual(found, sorted(found))
-        return found

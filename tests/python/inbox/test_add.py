@@ -27,7 +27,7 @@ MOST_LINES = int(os.environ.get("DEBVOTE_MOST_LINES", LINES_LIMIT))
 
 
 class Added(CalledTest):
-    def test_envelope_reply_and_words(self) -> None:
+    def test_envelope_reply_and_words(self):
         self.write("more.txt", "ada 1,2,4,3\nben 2,1,4,3\nada 2,1,4,3\n")
         replies = f"1 counted  ada: {LAKE}\n2 counted  ben: {HALL}\n3 replaced  ada: {HALL}\n"
         told = f"{replies}Added 3 lines (2 counted, 1 replaced).\n{NEXT}\n"
@@ -47,7 +47,7 @@ class Added(CalledTest):
         found = {(one.act, one.source, one.time, one.is_late) for one in envelopes}
         self.assertEqual(found, {(act.number, 1, act.time, False)})
 
-    def test_several_files_standard_input_and_another_folder(self) -> None:
+    def test_several_files_standard_input_and_another_folder(self):
         given = "ada 1,2,4,3\n", "cleo 1,2,4,3\n", "ben 1,2,4,3"
         self.write("a", given[0])
         self.write("b", given[2])
@@ -61,7 +61,7 @@ class Added(CalledTest):
         said = "4 counted  dan: ", "Next: debvote-election status --folder election; "
         self.tells("--folder election add more", *said, cwd=self.scratch)
 
-    def test_the_number_the_elector_and_the_words_of_a_line(self) -> None:
+    def test_the_number_the_elector_and_the_words_of_a_line(self):
         words = "At the lake and In the town hall equally, then Further discussion; not ranked, and so behind all others: Sell the house"
         said = (
             f"1 counted  ada: {words} and meet there\n",
@@ -83,7 +83,7 @@ class Added(CalledTest):
         # a refused line is not there to be replaced
         self.assertIn(" counted  cleo: ", self.cast(f"cleo {RANKS}"))
 
-    def test_names_of_files(self) -> None:
+    def test_names_of_files(self):
         names = ("ä" * 127, "x" * 255, "-n", "a b\nc")
         for number, name in enumerate(names, start=5):
             self.write(name, f"ada 1,2,4,{number}\n")
@@ -98,7 +98,7 @@ class Added(CalledTest):
         self.assertEqual([name for name, _ in self.sources()], [*names, "\\xff"])
         self.assertEqual(self.acts()[-1][1]["files"], ["\\xff"])
 
-    def test_each_change_is_told(self) -> None:
+    def test_each_change_is_told(self):
         came = b"\xef\xbb\xbfada 1,2,4,3\r\n Ben\t 2, 1 ,4,3 \r\n\r\ncleo 1,2,4,3\rdan  1,2,4,3"
         told = re.findall("(?m)^standard input:(.*)", self.adds(came))
         wanted = [
@@ -119,7 +119,7 @@ class Added(CalledTest):
         self.assertRegex(output, rf"\Amonday: {ends}tuesday: {ends}5 replaced  ada: ")
         self.assertNotIn("was changed to", output)
 
-    def test_a_refused_line_goes_in_as_it_came(self) -> None:
+    def test_a_refused_line_goes_in_as_it_came(self):
         has_name = "a ballot has the name there: a to z, 0 to 9, . or -\n  it goes in as it came; written as"
         self.adds(
             b"\xef\xbb\xbf Cleo 1,2,3 \r\nDan  1,2,4,3\r\nGsu 1,2,4,3\n",
@@ -130,7 +130,7 @@ class Added(CalledTest):
         )
         self.assertEqual(self.lines(), [" Cleo 1,2,3 ", "dan 1,2,4,3", "Gsu 1,2,4,3"])
 
-    def test_lines_of_a_word_processor_bytes_and_hints(self) -> None:
+    def test_lines_of_a_word_processor_bytes_and_hints(self):
         came = "ben\u00a01,2,4,3\n“ada” 1,2,4,3\ncleo 1,2,–,3\nA>B>C\ndan 1.\n1,2,3,4\n"
         output = self.adds(
             came,
@@ -155,7 +155,7 @@ class Added(CalledTest):
         said = "159 late  gsu 1,2,3,4: bad not on roll: gsu is not on the roll\n"
         self.adds("gsu 1,2,3,4\n", said)
 
-    def test_what_is_no_file_of_ballots(self) -> None:
+    def test_what_is_no_file_of_ballots(self):
         letters = "it has letters, and the other files have none; nothing was added: "
         poll = "it looks like a poll, not like ballots; nothing was added: "
         self.write("good", "ada 1,2,4,3\n")
@@ -199,7 +199,7 @@ class Added(CalledTest):
         self.assert_refused("add long", 4, said, "add it in parts")
         self.assertEqual((self.acts(), self.sources()), ([], []))
 
-    def test_in_a_signed_vote_a_line_needs_force_and_a_reason(self) -> None:
+    def test_in_a_signed_vote_a_line_needs_force_and_a_reason(self):
         self.act("announce", {"signed": True}, {"keyring": b"keys"})
         self.write("more", f"ada {RANKS}\n")
         said = "more: in this vote letters must be signed, and nothing shows who sent a line of a file; nothing was added: "
@@ -216,7 +216,7 @@ class Added(CalledTest):
         self.assertRegex(ended.faults, said)
         self.assertEqual(ended.status, 9)
 
-    def test_more_lines_than_debvote_takes(self) -> None:
+    def test_more_lines_than_debvote_takes(self):
         self.enterContext(mock.patch.object(entering, "LINES_LIMIT", MOST_LINES))
         numbers = range(MOST_LINES)
         lines = [f"ada {number // 99 % 99 + 1},{number % 99 + 1},1,2" for number in numbers]
@@ -234,7 +234,7 @@ class Added(CalledTest):
 
 
 class StopsTest(CalledTest):
-    def stops(self, data: str, *parts: str) -> None:
+    def stops(self, data: str, *parts: str):
         """A file is not added, and `--look` says so, too."""
         self.write("wrong", data)
         for look in ("", "--look "):
@@ -246,7 +246,7 @@ class OneNameOfTwo(StopsTest):
 
     members = "who,name,mail\nMaximilian Mayer,max,\nMax,,m@club.example\nKim,kim,\n"
 
-    def test_as_it_came_it_is_that_on_the_roll_and_else_of_both(self) -> None:
+    def test_as_it_came_it_is_that_on_the_roll_and_else_of_both(self):
         unclear = "it has the name of max and max-2"
         stops = f"wrong:2: {unclear}; nothing was added: "
         for line in (f"Max {RANKS}", f"MAX: {RANKS}", f"M\u00e1x {RANKS}", f"*Max* {RANKS}"):
@@ -262,7 +262,7 @@ class OneNameOfTwo(StopsTest):
 class AfterTheEnd(CalledTest):
     call_words = ("--until", "2099-12-04 18:00+01:00")
 
-    def test_before_the_close_after_it_and_after_reopen(self) -> None:
+    def test_before_the_close_after_it_and_after_reopen(self):
         self.write("bag", "cleo 1,2,4,3\n")
         in_time, said = (
             "--came-before-close yes",
@@ -313,7 +313,7 @@ class AfterTheEnd(CalledTest):
 
 
 class NoBallots(StopsTest):
-    def test_by_what_it_looks_like(self) -> None:
+    def test_by_what_it_looks_like(self):
         """It stops; `--force` adds each line."""
         table = "look at the file (wrong:1: When"
         for data, said in (
@@ -334,7 +334,7 @@ class NoBallots(StopsTest):
             self.assertEqual(len(self.lines()), 2)
             self.told("undo")
 
-    def test_all_that_stands_against_it_is_said_at_once(self) -> None:
+    def test_all_that_stands_against_it_is_said_at_once(self):
         self.write("good", "ada 1,2,4,3\n")
         self.write("wrong", "x\ny\n")
         self.write("letter", "ben 1,2,4,3\n" + "y" * 501 + "\n")
@@ -348,7 +348,7 @@ class NoBallots(StopsTest):
         self.told("add --force good wrong letter")
         self.assertEqual(len(self.lines()), 5)
 
-    def test_fewer_than_half_of_a_file_or_of_all(self) -> None:
+    def test_fewer_than_half_of_a_file_or_of_all(self):
         said = "wrong: debvote takes only 1 of the 3 lines as ballots; nothing was added: look at the file (wrong:1: Dear all,: bad shape: "
         self.write("good", "ada 1,2,4,3\nben 1,2,4,3\ncleo 1,2,4,3\n")
         self.write("one", "one\n")
@@ -373,7 +373,7 @@ class OtherOrder(StopsTest):
 
     ROWS = "ada 1,2,4,3\nben 1,2,4,3\ncleo 2,1,4,3\n"
 
-    def test_a_line_that_names_options_in_another_order(self) -> None:
+    def test_a_line_that_names_options_in_another_order(self):
         for line, head in (
             (1, "name in the TOWN hall, at the lake\n"),
             (1, "\ufeff# further discussion;sell the house and meet there\r\n"),
@@ -398,7 +398,7 @@ class OtherOrder(StopsTest):
                 said = "These would be 4 lines (1 bad shape, 3 counted)"
                 self.adds(head + self.ROWS, said, words="--look")
 
-    def test_what_looks_like_a_table(self) -> None:
+    def test_what_looks_like_a_table(self):
         """By the head, whatever it says, or by the rows; nothing of it is repaired."""
         said = "wrong: the lines look like a table; its columns may stand in another order than the options; nothing was added: "
         cure = "write each line as a name and its ranks in the order of the options, or add it anyway with --force"
@@ -426,12 +426,12 @@ When/Who/Mail/Note/A/B/C/D
         lines = ["Name;Lake;Hall;Sell;Further", "ada 1;2;3;4", "ben 2,1,3,4"]
         self.assertEqual(self.lines(), lines)
 
-    def test_what_looks_like_none(self) -> None:
+    def test_what_looks_like_none(self):
         """A refused ballot above others, a head without ranks below it, and notes of few words."""
         lines = f"Mrs Lovelace {RANKS}\nada {RANKS}\n# by phone, Monday\nben {RANKS}\ncleo {RANKS}\nName;A;B;C;D\n"
         self.adds(lines, "Added 6 lines (3 bad shape, 3 counted).")
 
-    def test_lines_of_a_table_and_semicolons_between_ranks(self) -> None:
+    def test_lines_of_a_table_and_semicolons_between_ranks(self):
         """Few are ballots if it has other signs, or words; only blanks at commas are repaired."""
         for table in ("ada|1|2|3|4\nben|1|2|3|4\n", "ada;1;2;3;4\nben;1;2;3;x\n", "ada 1\nben 2\n"):
             self.stops(table, "wrong: debvote takes none of the 2 lines as ballots")
@@ -448,7 +448,7 @@ class RealNames(StopsTest):
     members = "who,name,mail\nAda Lovelace,ada,\nBen Müller,ben-1,\nBen Muller,ben-2,\n"
     members += "Cleo,cleo-blum,\nCleo Blum,dan,\n"
 
-    def test_that_of_one_elector(self) -> None:
+    def test_that_of_one_elector(self):
         self.adds(
             f"Ada Lovelace {RANKS}\nLovelace {RANKS}\n",
             f"1: `Ada Lovelace {RANKS}` was changed to `ada {RANKS}`\n1 counted  ada: {LAKE}\n",
@@ -467,7 +467,7 @@ class RealNames(StopsTest):
         )
         self.assertTrue(self.told("show 'ada lovelace'").startswith("ada: Ada Lovelace\n"))
 
-    def test_that_of_several(self) -> None:
+    def test_that_of_several(self):
         """Nothing goes in until somebody says who is meant; by force the line goes in, and is
         refused.
         """
@@ -494,7 +494,7 @@ class OtherNames(StopsTest):
     names = ["ada", "ben", "cleo", "anna-meier", "anna-meier-2"]
     poll = 'title = "x"\noptions = ["B", "2", "1"]\nratios = [1, 1, 3]\ndefault = "Further discussion"\nquorum = 1\n'
 
-    def test_ranks_are_no_names_and_a_name_that_fits_as_well_is_told(self) -> None:
+    def test_ranks_are_no_names_and_a_name_that_fits_as_well_is_told(self):
         said = "Added 3 lines (2 counted, 1 bad rank count).\n"
         self.adds("ada 2,1,4,3\nben 2,1\ncleo 1,2,3,4\n", said)
         said = "wrong: line 1 names options of the poll in another order"
@@ -504,14 +504,14 @@ class OtherNames(StopsTest):
 
 
 class Failing(CalledTest):
-    def test_a_full_disk(self) -> None:
+    def test_a_full_disk(self):
         """Each line goes in, or none, wherever the disk is full."""
         self.adds(f"ben {RANKS}\n")
         size = (self.folder / "election.db").stat().st_size
         given = "".join(f"ada {number},2,3,4\n" for number in range(1, 100)) * 40
         for room in (4096, size // 2, size, size + 40_960):
 
-            def limit(room: int = room) -> None:
+            def limit(room: int = room):
                 signal.signal(signal.SIGXFSZ, signal.SIG_IGN)
                 resource.setrlimit(resource.RLIMIT_FSIZE, (room, room))
 
@@ -521,7 +521,7 @@ class Failing(CalledTest):
         self.told("log --check")
         self.adds(f"ada {RANKS}\n", "2 counted  ada: ")
 
-    def test_an_output_that_is_full_and_no_debvote(self) -> None:
+    def test_an_output_that_is_full_and_no_debvote(self):
         self.write("more", f"ada {RANKS}\nben {RANKS}\n")
         words, env = [sys.executable, elections.ELECTION, "add", "more"], elections.environment()
         with open("/dev/full", "w") as full:
@@ -542,7 +542,7 @@ class Failing(CalledTest):
         ended = self.run_program("/usr/bin/python3", copy, "add", given=f"ada {RANKS}\n", env=env)
         self.assertEqual((ended.status, len(self.lines())), (127, 2), ended)
 
-    def test_replies_are_those_of_debvote(self) -> None:
+    def test_replies_are_those_of_debvote(self):
         """The book says what became of lines as the box does, to which all of them are cast in
         turn.
         """

@@ -16,7 +16,7 @@ ASKED = "Did this come before that close? [y/n] "
 
 
 class AfterReopen(CalledTest):
-    def setUp(self) -> None:
+    def setUp(self):
         super().setUp()
         self.close_book()
         self.act("reopen", {"because": "a bag was forgotten"})
@@ -36,7 +36,7 @@ class AfterReopen(CalledTest):
         self.assertEqual((ended, says in output), (status, True), output)
         return output
 
-    def test_yes_and_no_and_the_end_of_the_input(self) -> None:
+    def test_yes_and_no_and_the_end_of_the_input(self):
         self.answer(self.asked(), "y\n", says=f"1 counted  ada: {LAKE}\n")
         self.told("undo")
         before = self.last_act()
@@ -46,7 +46,7 @@ class AfterReopen(CalledTest):
         self.answer(self.asked(), "perhaps\n", "n\n", says="3 late  ada: ")
         self.assertEqual((self.lines(), len(self.late_lines())), ([], 2))
 
-    def test_acts_meanwhile(self) -> None:
+    def test_acts_meanwhile(self):
         """First one that changes nothing of it; what somebody adds then has come before: the answer
         decides which lines are new, so it is asked first.
         """
@@ -59,13 +59,13 @@ class AfterReopen(CalledTest):
             self.assertEqual(self.lines(), lines)
             self.told("undo")
 
-    def test_a_close_meanwhile(self) -> None:
+    def test_a_close_meanwhile(self):
         terminal = self.asked()
         self.close_book()
         self.answer(terminal, "y\n", says="1 late  ada: ")
         self.assertEqual((self.lines(), len(self.late_lines())), ([], 2))
 
-    def test_what_came_at_the_terminal_itself(self) -> None:
+    def test_what_came_at_the_terminal_itself(self):
         terminal = Terminal(self, "add")
         terminal.until(
             "Type the ballots, one on each line; to end, type Ctrl-D on an empty line.\n"
@@ -86,7 +86,7 @@ class BesideOthers(CalledTest):
         self.addCleanup(run.kill)
         return run
 
-    def test_two_copies_of_one_file(self) -> None:
+    def test_two_copies_of_one_file(self):
         ranks = itertools.product(range(1, 20), repeat=2)
         self.write("many", "".join(f"ada {one},{other},1,2\n" for one, other in ranks))
         runs = [self.adding("many") for _ in range(4)]
@@ -96,7 +96,7 @@ class BesideOthers(CalledTest):
         said = "Added 361 lines", "There is nothing new"
         self.assertEqual([outputs.count(part) for part in said], [1, 3])
 
-    def test_each_gets_the_replies_to_its_own_lines(self) -> None:
+    def test_each_gets_the_replies_to_its_own_lines(self):
         runs = {name: self.adding() for name in self.names[:5]}
         for name, run in runs.items():
             run.stdin.write(f"{name} {RANKS}\n{name} {OTHER_RANKS}\n")
@@ -110,7 +110,7 @@ class BesideOthers(CalledTest):
             self.assertIn(f"{first} counted  {name}: {LAKE}\n", output)
             self.assertIn(f"\n{second} replaced  {name}: ", output)
 
-    def test_lines_from_a_named_pipe_and_a_process_substitution(self) -> None:
+    def test_lines_from_a_named_pipe_and_a_process_substitution(self):
         os.mkfifo(self.folder / "more")
         with subprocess.Popen(["sh", "-c", f"echo ada {RANKS} > {self.folder}/more"]):
             self.tells("add more", "Added 1 line (1 counted).\n", timeout=elections.SECONDS)
@@ -121,7 +121,7 @@ class BesideOthers(CalledTest):
         os.close(read_end)
         self.assertEqual(self.lines(), [f"ada {RANKS}", f"ben {RANKS}"])
 
-    def test_another_call_while_it_reads(self) -> None:
+    def test_another_call_while_it_reads(self):
         """What it says of the lines is of the poll before."""
         os.mkfifo(self.folder / "more")
         run = self.adding("more")
@@ -141,7 +141,7 @@ class BesideOthers(CalledTest):
 class Look(CalledTest):
     """`--look` says what the same command does without it, and nothing is kept."""
 
-    def assert_look_says_it(self, words: str = "", given: str | None = None) -> None:
+    def assert_look_says_it(self, words: str = "", given: str | None = None):
         before = self.last_act()
         look = self.election(f"add --look {words}", given=given)
         self.assertEqual(self.last_act(), before)
@@ -152,7 +152,7 @@ class Look(CalledTest):
             self.assertEqual(looked, told)
             self.assertIn(f"These would be {added} Nothing was changed.\n", look.output)
 
-    def test_it_says_it(self) -> None:
+    def test_it_says_it(self):
         self.assert_look_says_it(given=MONDAY)
         self.assert_look_says_it(given=f"ada {OTHER_RANKS}\n{MONDAY}cleo {RANKS}\nGsu 1,2\n")
         self.told("strike 1 --because 'a test'")

@@ -11,7 +11,7 @@ MONDAY = "Ada 1,2,4,3\nben 1, 2,4,3\n"
 
 
 class Before(CalledTest):
-    def setUp(self) -> None:
+    def setUp(self):
         super().setUp()
         self.write("monday", MONDAY)
         self.told("add monday")
@@ -24,10 +24,10 @@ class Before(CalledTest):
         ignored = f"{name}: {lines} came before; {new} {'is' if new == 1 else 'are'} new\n"
         return self.tells(f"add {name}", ignored, *parts)
 
-    def assert_nothing_since(self, count: int, new: int = 0, name: str = "monday") -> None:
+    def assert_nothing_since(self, count: int, new: int = 0, name: str = "monday"):
         self.assertNotIn("came before, and", self.assert_ignored(count, new, name=name))
 
-    def test_the_same_lines_again(self) -> None:
+    def test_the_same_lines_again(self):
         before = self.last_act()
         self.assert_nothing_since(2)
         self.tells("add monday", "There is nothing new, and nothing was added.\n")
@@ -74,7 +74,7 @@ class Before(CalledTest):
         self.assert_ignored(1, 0)
         self.assertEqual(self.late_lines(), [f"dan {RANKS}"])
 
-    def test_it_has_grown(self) -> None:
+    def test_it_has_grown(self):
         self.write("more", f"cleo 1,2,4,3\n{MONDAY}dan 1,2,4,3\n")
         self.assert_ignored(2, 2, "3 counted  cleo: ", "4 counted  dan: ")
         self.assertEqual(self.lines()[2:], ["cleo 1,2,4,3", "dan 1,2,4,3"])
@@ -89,7 +89,7 @@ class Before(CalledTest):
         self.tells("add one two", f"one: {ignored} 1 is new\n", f"two: {ignored} 2 are new\n")
         self.assertEqual(self.lines()[4:], [f"eve {RANKS}", f"fay {RANKS}", f"fay {RANKS}"])
 
-    def test_what_an_undo_took_back_came_not(self) -> None:
+    def test_what_an_undo_took_back_came_not(self):
         self.told("undo")
         self.assertNotIn("came before", self.tells("add monday", "3 counted  ada: "))
         # nor do two files of which the later one was taken back
@@ -98,7 +98,7 @@ class Before(CalledTest):
         self.told("undo")
         self.assert_ignored(2, 1)
 
-    def test_what_was_struck_came_whatever_became_of_its_act(self) -> None:
+    def test_what_was_struck_came_whatever_became_of_its_act(self):
         """A strike holds: the undo of its act takes back the other lines."""
         self.told("strike 1 --because 'ada did not write it'")
         said = f"  monday:1: `ada {RANKS}` came before, and was struck (envelope 1)\n"
@@ -108,7 +108,7 @@ class Before(CalledTest):
             self.told("undo")
             self.assert_ignored(1, 1, said, f"\n{number} counted  ben: ", name="monday")
 
-    def test_an_older_line_above_one_that_came_before(self) -> None:
+    def test_an_older_line_above_one_that_came_before(self):
         """The file says that the other one is the newer one. Below it a line is newer, and a third
         one again.
         """
@@ -121,7 +121,7 @@ class Before(CalledTest):
         self.assertEqual(self.lines()[2:], (newer + older + newer).splitlines())
         self.adds(f"cleo 1,1,4,3\n{newer}", "6 replaced  cleo", words="--force")
 
-    def test_another_ballot_has_come(self) -> None:
+    def test_another_ballot_has_come(self):
         self.cast(f"ada {OTHER_RANKS}")
         said = f"\n  monday:1: `ada {RANKS}` came before, and ada has voted since (envelope 3)\n"
         self.assertNotIn("monday:2", self.assert_ignored(2, 0, said, name="monday"))
@@ -130,7 +130,7 @@ class Before(CalledTest):
         self.cast(f"ada {RANKS}")
         self.assert_nothing_since(2)
 
-    def test_many_have_changed(self) -> None:
+    def test_many_have_changed(self):
         ranks = itertools.islice(itertools.permutations("1234"), 22)
         self.write("more", "".join(f"cleo {','.join(one)}\n" for one in ranks))
         self.told("add more")
@@ -138,7 +138,7 @@ class Before(CalledTest):
         output = self.assert_ignored(22, 0, "\n  and 2 more\n")
         self.assertEqual(output.count(" came before, and cleo has voted since"), 20, output)
 
-    def test_a_ballot_that_was_struck_or_late_is_nothing_since(self) -> None:
+    def test_a_ballot_that_was_struck_or_late_is_nothing_since(self):
         # of equal lines the one that was struck came last
         self.adds(f"ada {RANKS}\nada {RANKS}\n")
         self.told("strike 1 --because 'a test'")
@@ -150,7 +150,7 @@ class Before(CalledTest):
         self.cast(f"ada {OTHER_RANKS}")
         self.assert_nothing_since(2)
 
-    def test_it_was_late_and_the_vote_is_open_again(self) -> None:
+    def test_it_was_late_and_the_vote_is_open_again(self):
         """What was entered late although it came in time goes in as a new envelope."""
         self.close_book(2)
         self.write("more", f"cleo {RANKS}\n")

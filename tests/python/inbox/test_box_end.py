@@ -28,7 +28,7 @@ LATE, LOOKED_AT = f"{WAITS}The reason: {AFTER}.", f"{WAITS}If you have not sent 
 
 @NEEDS_PHP
 class End(boxes.BoxElectionTest):
-    def begun_to_end(self, ahead: int = 0) -> None:
+    def begun_to_end(self, ahead: int = 0):
         """Called and written to all, with an end in two hours; the clock of the host is so many
         seconds ahead.
         """
@@ -51,7 +51,7 @@ class End(boxes.BoxElectionTest):
 
             yield ended
 
-    def demand_told(self, **told: Sequence[str]) -> None:
+    def demand_told(self, **told: Sequence[str]):
         """These electors, and nobody else, get receipts, which have these parts, and say of no
         other ballot that it counts or waits.
         """
@@ -65,7 +65,7 @@ class End(boxes.BoxElectionTest):
             waits = any(part.startswith(WAITS) for part in parts)
             self.assertEqual(of_each, (READ in parts, waits), text)
 
-    def test_clicks_while_it_passes(self) -> None:
+    def test_clicks_while_it_passes(self):
         self.begun_to_end()
         self.later(END - 100)
         with self.begun_click("ben") as ended:
@@ -96,7 +96,7 @@ class End(boxes.BoxElectionTest):
         self.done("publish")
         self.assertEqual(self.read("result/ballots.txt").decode(), f"ada {RANKS}\ndan {RANKS}\n")
 
-    def test_an_extension_makes_it_count(self) -> None:
+    def test_an_extension_makes_it_count(self):
         """Of a click after the first end, before and after the box was asked."""
         self.begun_to_end()
         self.later(END + 1)
@@ -111,7 +111,7 @@ class End(boxes.BoxElectionTest):
         self.assertEqual(self.standing(), dict.fromkeys(("ada", "ben", "cleo"), RANKS))
         self.demand_told(ada=STAYS, ben=STAYS, cleo=STAYS)
 
-    def test_a_click_before_an_early_close_by_a_host_that_is_ahead(self) -> None:
+    def test_a_click_before_an_early_close_by_a_host_that_is_ahead(self):
         """What stopped `count` as in time is in time for `held`, too."""
         self.begun_to_end(180)
         self.click("ada")
@@ -123,13 +123,13 @@ class End(boxes.BoxElectionTest):
         self.assertIn("1 counted  ada: ", self.told("held 1 --enter"))
         self.demand_told(ada=COUNTS)
 
-    def test_a_host_that_is_behind(self) -> None:
+    def test_a_host_that_is_behind(self):
         self.demand_decided(-180, -180, ["ada", "ben"], "cleo")
 
-    def test_a_host_that_is_ahead_and_one_that_is_put_right_before_it_is_asked(self) -> None:
+    def test_a_host_that_is_ahead_and_one_that_is_put_right_before_it_is_asked(self):
         self.demand_decided(180, 0, ["ada"], "ben")
 
-    def demand_decided(self, ahead: int, at_last: int, counting: list[str], waiting: str) -> None:
+    def demand_decided(self, ahead: int, at_last: int, counting: list[str], waiting: str):
         """Four electors click, before the end and after it, by four minutes and by one. What the
         clock of the host could take across the end waits, on either side of it.
         """
@@ -162,7 +162,7 @@ class End(boxes.BoxElectionTest):
         )
         self.assertIn(note, self.read("result/index.html").decode())
 
-    def test_a_clock_that_is_put_back_between_two_clicks(self) -> None:
+    def test_a_clock_that_is_put_back_between_two_clicks(self):
         self.begun_to_end()
         for ahead, ranks in ((300, OTHER), (0, RANKS)):
             self.host_off(ahead)

@@ -31,7 +31,7 @@ HTTPS = "--at https://club.example/vote/"
 class CallWithBox(elections.ElectionTest):
     call_words = None
 
-    def test_what_stands_against_it_is_told_at_once(self) -> None:
+    def test_what_stands_against_it_is_told_at_once(self):
         before, page = self.contents(), "--box: the page needs an address by https"
         plain = "--at http://club.example/"
         for words, *parts in (
@@ -50,7 +50,7 @@ class CallWithBox(elections.ElectionTest):
                 self.assertIn(part, line)
         self.assertEqual(self.contents(), before)
 
-    def test_the_folder_the_key_and_another_call(self) -> None:
+    def test_the_folder_the_key_and_another_call(self):
         said = self.done(f"call --box {HTTPS}").output
         # nor can a vote with a box be one with signatures afterwards
         plain = "call --keyring x --at http://club.example/"
@@ -100,7 +100,7 @@ class CallWithBox(elections.ElectionTest):
 
 @NEEDS_PHP
 class Clicks(boxes.BoxElectionTest):
-    def test_the_link_is_in_the_letters_to_its_elector_alone(self) -> None:
+    def test_the_link_is_in_the_letters_to_its_elector_alone(self):
         self.begun()
         files = {name: data.replace(b"=\n", b"") for name, data in self.contents().items()}
         letters = {name: data for name, data in files.items() if name.endswith(".eml")}
@@ -112,7 +112,7 @@ class Clicks(boxes.BoxElectionTest):
             found = [other for other, text in files.items() if link.encode() in text]
             self.assertEqual([other for other in found if other != "election.db"], [name])
 
-    def test_clicks_letters_and_what_is_kept(self) -> None:
+    def test_clicks_letters_and_what_is_kept(self):
         self.begun(ada=RANKS, ben="2,1,-,4")
         self.click("ada", OTHER)
         self.refused("add --box x", "--box: it takes no file", status=2)
@@ -145,7 +145,7 @@ class Clicks(boxes.BoxElectionTest):
             self.done(f"held {number} --enter --force not-tied --force voted-since")
         self.assertEqual(self.standing(), standing)
 
-    def test_a_link_that_a_new_one_has_replaced_waits_and_both_addresses_are_told(self) -> None:
+    def test_a_link_that_a_new_one_has_replaced_waits_and_both_addresses_are_told(self):
         links = self.begun()
         self.new_address("ada")
         # the host has the older list
@@ -168,7 +168,7 @@ class Clicks(boxes.BoxElectionTest):
         self.add_box()
         self.assertEqual(self.standing(), {"ada": OTHER})
 
-    def test_a_backup_that_is_put_back(self) -> None:
+    def test_a_backup_that_is_put_back(self):
         """The book lacks the link of a ballot that came: it is kept, and waits for whoever knows
         why.
         """
@@ -194,7 +194,7 @@ class Clicks(boxes.BoxElectionTest):
         self.done("held 2 --enter --force not-tied --force voted-since")
         self.assertEqual(self.standing(), both)
 
-    def test_a_call_that_was_taken_back(self) -> None:
+    def test_a_call_that_was_taken_back(self):
         """Its links are no more, and where the options have another order no way leads from its
         page to a ballot.
         """
@@ -221,7 +221,7 @@ class Clicks(boxes.BoxElectionTest):
         self.add_box()
         self.assertEqual(self.standing(), {"ada": RANKS})
 
-    def test_by_ftp_and_then_by_key(self) -> None:
+    def test_by_ftp_and_then_by_key(self):
         self.begun(ada=RANKS, ben=RANKS)
         data = self.file().read_bytes()
         # whoever has the file can make none of another proof
@@ -249,7 +249,7 @@ class Clicks(boxes.BoxElectionTest):
             self.assertIn(part, text)
         self.assertNotIn("from another address", text)
 
-    def test_what_was_asked_before_is_not_opened_again(self) -> None:
+    def test_what_was_asked_before_is_not_opened_again(self):
         links = self.begun(ada=RANKS, ben=RANKS)
         self.add_box()
         [(data,), _] = self.rows("SELECT data FROM source ORDER BY source")
@@ -264,7 +264,7 @@ class Clicks(boxes.BoxElectionTest):
         # what a vote sets for its output is of no other test
         contextvars.copy_context().run(self.demand_known)
 
-    def demand_known(self) -> None:
+    def demand_known(self):
         """Nothing is opened, and all is there."""
         vote = Vote(Election(self.folder, PROGRAM.parent))
         asked = box_records.Asked(now(), 0, "", b"".join(self.records()))
@@ -274,7 +274,7 @@ class Clicks(boxes.BoxElectionTest):
         self.assertEqual((opening.called, len(letters), unopened), (False, 2, []))
         self.assertEqual({one.digest for one in letters}, {one.digest for one in kept})
 
-    def test_no_request_has_the_key_and_three_ask_at_once(self) -> None:
+    def test_no_request_has_the_key_and_three_ask_at_once(self):
         with Liar(lambda request: [passed_on(request, self.host)]) as between:
             self.begun("--at", between.at, **dict.fromkeys(NAMES, RANKS))
             with ThreadPoolExecutor() as pool:
@@ -291,7 +291,7 @@ class Clicks(boxes.BoxElectionTest):
         self.assertEqual(self.standing(), dict.fromkeys(NAMES, RANKS))
         self.assertEqual(self.rows("SELECT count(*) FROM letter"), [(len(NAMES),)])
 
-    def test_no_link_is_shown_again(self) -> None:
+    def test_no_link_is_shown_again(self):
         """And a record without a ballot, which no page makes, is told to whose link it is."""
         links = self.begun(ada="1,2,3,5", ben="YES")
         self.assertIn("2 letters wait", self.add_box())
@@ -353,7 +353,7 @@ class Receipts(boxes.BoxElectionTest):
             for one in files
         }
 
-    def test_whose_has_the_link(self) -> None:
+    def test_whose_has_the_link(self):
         """That of a letter that waits, to the present address of its elector alone, while the vote
         is open.
         """
@@ -390,7 +390,7 @@ CHANGED = "4,4,1,-"
 class Whole(boxes.BoxElectionTest):
     """Six click and three write; some do both, or do it again."""
 
-    def test_each_ballot_is_as_meant_and_each_receipt_true(self) -> None:
+    def test_each_ballot_is_as_meant_and_each_receipt_true(self):
         meant = dict(zip(NAMES, map(",".join, itertools.permutations("1234"))))
         links = self.begun(**{name: meant[name] for name in NAMES[:6]})
         # a click again, and one with the same number again
@@ -444,7 +444,7 @@ print(used.ru_utime + used.ru_stime, used.ru_maxrss)"""
 class Many(boxes.BoxElectionTest):
     names = [f"m{number}" for number in range(RECORDS // MOST)]
 
-    def test_ten_thousand_records(self) -> None:
+    def test_ten_thousand_records(self):
         """Memory and speed: opened in 200 megabytes and 60 seconds of the processor, and asked
         again in half, as none is opened again.
         """

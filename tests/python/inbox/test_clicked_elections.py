@@ -52,7 +52,7 @@ class ClickedElection(boxes.BoxElectionTest):
     words: tuple[str, ...] = ()
     public: tuple[str, ...] = ("index.html", "poll.toml", "call.txt")
 
-    def setUp(self) -> None:
+    def setUp(self):
         self.said = list[str]()
         super().setUp()
         self.between = self.enterContext(Liar(lambda request: [passed_on(request, self.host)]))
@@ -71,7 +71,7 @@ class ClickedElection(boxes.BoxElectionTest):
         """What else than names, ranks, links and own marks is secret."""
         return []
 
-    def demand_nothing_on_the_host(self, links: dict[str, str]) -> None:
+    def demand_nothing_on_the_host(self, links: dict[str, str]):
         """Nothing in its files, its log, and what it was sent, tells a name, a line, a link or an
         own mark.
         """
@@ -84,20 +84,20 @@ class ClickedElection(boxes.BoxElectionTest):
             for secret in secrets:
                 self.assertNotIn(secret.encode(), data)
 
-    def demand_one_length(self, count: int) -> None:
+    def demand_one_length(self, count: int):
         lengths = [len(record) for record in self.records()]
         self.assertEqual((len(lengths), len({*lengths})), (count, 1))
 
 
 @NEEDS_BROWSER
 class InABrowser(ClickedElection):
-    def setUp(self) -> None:
+    def setUp(self):
         super().setUp()
         # what receipts name is not its time
         self.host_off(50)
         self.window = self.enterContext(Window(390, 844))
 
-    def visit(self, name: str) -> None:
+    def visit(self, name: str):
         boxes.visit(self.window, f"{self.between.at}#{self.place_of(name)}")
 
     def chosen(self, ranks: str) -> str:
@@ -125,7 +125,7 @@ class InABrowser(ClickedElection):
         self.assertEqual(self.window.faults, [])
         return sent
 
-    def demand_receipts(self, sent: dict[str, list[str]]) -> None:
+    def demand_receipts(self, sent: dict[str, list[str]]):
         """Each names the times that the page said, and no other."""
         receipts = self.receipts()
         self.assertEqual(sorted(receipts), sorted(self.names))
@@ -149,7 +149,7 @@ SECRET = f"secret = true\n{elections.POLL}"
 
 
 class OpenByClicks(InABrowser):
-    def test_what_is_published_is_what_was_chosen(self) -> None:
+    def test_what_is_published_is_what_was_chosen(self):
         links = self.begun()
         sent = self.all_click()
         count = sum(map(len, sent.values()))
@@ -159,7 +159,7 @@ class OpenByClicks(InABrowser):
         self.assertEqual(self.close_and_publish(), self.ranks)
         self.demand_nothing_on_the_host(links)
 
-    def test_a_host_that_drops_a_ballot_and_dates_the_one_before_it_anew(self) -> None:
+    def test_a_host_that_drops_a_ballot_and_dates_the_one_before_it_anew(self):
         """Who sent it sees that: the receipt names the time of the other one, and not the one that
         the page said.
         """
@@ -187,14 +187,14 @@ class SecretByClicks(InABrowser):
     on_paper = ("member-01 1, 2, 3", "Member-01 4;3;2;1", "nobody 1,2,3,4", "member-01 1 2 3 4 5")
     at_a_desk = ("member-00 2,1,3,4", "member-01 1/2/3/4", "member-01 4 3 2 1 4")
 
-    def setUp(self) -> None:
+    def setUp(self):
         super().setUp()
         self.done("codes")
 
     def secrets(self) -> list[str]:
         return [str(one) for row in self.rows("SELECT alias, code FROM elector_now") for one in row]
 
-    def test_what_is_published_is_what_was_chosen_and_nothing_else_tells_it(self) -> None:
+    def test_what_is_published_is_what_was_chosen_and_nothing_else_tells_it(self):
         links = self.begun()
         # without a link no line is made, and the page says which one to open
         boxes.visit(self.window, self.between.at)
@@ -221,7 +221,7 @@ class SecretByClicks(InABrowser):
         self.demand_nothing_on_the_host(links)
         self.demand_untold(links, aliases)
 
-    def use_all_commands(self) -> None:
+    def use_all_commands(self):
         """Ballots that wait, that are refused, and that are taken back; what stands at the end is
         what it was.
         """
@@ -250,7 +250,7 @@ class SecretByClicks(InABrowser):
         self.assertEqual(self.rows("SELECT max(letter) FROM letter"), [(waiting[1],)])
         self.election("log --check")
 
-    def demand_untold(self, links: dict[str, str], aliases: dict[str, str]) -> None:
+    def demand_untold(self, links: dict[str, str], aliases: dict[str, str]):
         """No output has ranks or an alias, no letter ranks, and nothing ties a name to an alias."""
         self.assertGreater("".join(self.said).count("(shown at a terminal alone)"), 3 * MEMBERS)
         for said in self.said:
@@ -278,7 +278,7 @@ class SecretByClicks(InABrowser):
             if where.startswith(("result", "call/")):
                 self.assertEqual(names, set(), where)
 
-    def demand_no_ranks(self, text: str) -> None:
+    def demand_no_ranks(self, text: str):
         for pattern in (RANKED, IN_WORDS):
             self.assertIsNone(pattern.search(text), text)
 
@@ -287,7 +287,7 @@ class SecretByClicks(InABrowser):
 class Struck(boxes.BoxElectionTest):
     """A host that takes an elector out of the list of its script."""
 
-    def test_it_is_told_to_the_elector_and_to_who_asks(self) -> None:
+    def test_it_is_told_to_the_elector_and_to_who_asks(self):
         self.begun(ada=RANKS, ben=RANKS)
         self.add_box()
         script = self.web / "vote.php"
@@ -319,14 +319,14 @@ class SecretQuestions(boxes.BoxElectionTest):
         "B": 'secret = true\ntitle = "The chair"\noptions = ["Ada Lovelace", "Mary Somerville"]\nratios = [1, 1]\ndefault = "Nobody"\nquorum = 0\n',
     }
 
-    def fill_in(self, folder: pathlib.Path) -> None:
+    def fill_in(self, folder: pathlib.Path):
         super().fill_in(folder)
         (folder / "poll.toml").unlink()
         (folder / "polls" / "title.txt").write_text("General assembly\n")
         for label, poll in self.polls.items():
             (folder / "polls" / f"{label}.toml").write_text(poll)
 
-    def test_no_output_tells_answers(self) -> None:
+    def test_no_output_tells_answers(self):
         self.done("codes")
         self.begun("--slips", "no", ada="A 1,2 B 2,1,3", ben="A 2,1", dan="A 1,9")
         self.click("ada", "B 3,2,1")
@@ -370,7 +370,7 @@ class ShuffledClicks(boxes.BoxElectionTest):
         )
     )
 
-    def test_who_clicked_when_changes_no_byte_of_what_is_published(self) -> None:
+    def test_who_clicked_when_changes_no_byte_of_what_is_published(self):
         self.done("codes")
         links, kept = self.begun("--slips", "yes"), self.scratch / "kept"
         self.begin_of_clicks = now(60).replace(microsecond=0)
@@ -394,7 +394,7 @@ class ShuffledClicks(boxes.BoxElectionTest):
             for name in files:
                 self.assertEqual(files[name], published[0][name])
 
-    def at(self, seconds: int) -> None:
+    def at(self, seconds: int):
         """From now on it is this time, by all clocks."""
         when = self.begin_of_clicks + datetime.timedelta(seconds=seconds)
         self.devices_off = int((when - now()).total_seconds())

@@ -33,11 +33,11 @@ class AskedTest(boxes.BoxElectionTest):
     def is_present(self) -> bool:
         return bool(self.status()["box"]["is_present"])
 
-    def demand_unseen(self, *kinds: str) -> None:
+    def demand_unseen(self, *kinds: str):
         for kind in kinds:
             self.refused(f"letters {kind}", f"{kind}: {UNSEEN}", "upload the folder call")
 
-    def ending_soon(self, **clicks: str) -> None:
+    def ending_soon(self, **clicks: str):
         """Called to end in ten minutes, and written to all, of whom some have clicked before the
         end.
         """
@@ -46,7 +46,7 @@ class AskedTest(boxes.BoxElectionTest):
 
 @NEEDS_PHP
 class Letters(AskedTest):
-    def test_what_was_not_seen(self) -> None:
+    def test_what_was_not_seen(self):
         self.done("call", "--to", "vote@club.example", "--at", self.host.at, "--box")
         fault = "call: the call has a web box, and says no end of the vote"
         self.refused("letters call", fault, "call --until TIME")
@@ -88,7 +88,7 @@ class Letters(AskedTest):
         self.move()
         self.demand_unseen("call", "reminders")
 
-    def test_reminders_and_another_address(self) -> None:
+    def test_reminders_and_another_address(self):
         self.begun()
         self.done("letters reminders")
         # an asking is fresh for ten minutes
@@ -112,12 +112,12 @@ class Letters(AskedTest):
         fault = "would be told that they have not: when the web box was asked last, it was only "
         self.refused("letters reminders --yes", fault)
 
-    def test_what_comes_next(self) -> None:
+    def test_what_comes_next(self):
         """What `add --box` and `roll` say."""
         send = "debvote-election letters --send sends the letters, or debvote-election letters call writes them"
         upload = "upload call/vote.php again, since these electors have new links; then debvote-election letters call, for the new addresses"
 
-        def demand(following: str, said: str) -> None:
+        def demand(following: str, said: str):
             self.assertEqual(said.splitlines()[-1], f"Next: {following}")
 
         self.call()
@@ -143,7 +143,7 @@ class Letters(AskedTest):
 
 @NEEDS_PHP
 class Closes(AskedTest):
-    def test_an_early_one_and_after_it(self) -> None:
+    def test_an_early_one_and_after_it(self):
         self.begun(ada=RANKS)
         self.add_box()
         self.assertIn("Web box: 1 record when it was asked last", self.done("count --force").faults)
@@ -190,7 +190,7 @@ class Closes(AskedTest):
         self.done("publish --language en result-2")
         self.assertNotIn(MISSING, self.read("result-2/index.html"))
 
-    def test_the_end_by_both_clocks(self) -> None:
+    def test_the_end_by_both_clocks(self):
         self.begun(ada=RANKS)
         self.add_box()
         self.set_clock("2099-12-04T18:00:01+01:00")
@@ -219,7 +219,7 @@ class Closes(AskedTest):
         self.done(REOPEN)
         self.done("close")
 
-    def test_an_asking_of_the_second_of_an_early_close_is_none(self) -> None:
+    def test_an_asking_of_the_second_of_an_early_close_is_none(self):
         """A ballot of that second may have come after it."""
         self.call()
         self.off(-1800)
@@ -229,7 +229,7 @@ class Closes(AskedTest):
         fault = "--box: the web box was not asked since the vote was closed early"
         self.assertIn(fault, self.election("count").faults)
 
-    def test_what_was_asked_after_the_end_is_asked_again(self) -> None:
+    def test_what_was_asked_after_the_end_is_asked_again(self):
         """By the clock of the host the end has come, by that of this computer it has not."""
         self.off(-3600)
         until = f"{now(-120):%Y-%m-%d %H:%M+00:00}"
@@ -244,7 +244,7 @@ class Closes(AskedTest):
         self.done("publish")
         self.assertNotIn(MISSING, self.read("result/index.html"))
 
-    def test_new_ballots_in_time_stop_it(self) -> None:
+    def test_new_ballots_in_time_stop_it(self):
         """Also with --yes, and elsewhere than at a terminal; closed again it needs no new asking,
         and clicks after the end stop nothing.
         """
@@ -269,7 +269,7 @@ class Closes(AskedTest):
         self.assertEqual(sorted(self.standing()), ["ada", "ben", "cleo"])
         self.done("log --check")
 
-    def test_a_kill_and_a_no_between_both_acts(self) -> None:
+    def test_a_kill_and_a_no_between_both_acts(self):
         """It was asked, by an act of its own before the question, and nothing is closed. A click
         after the end stops nothing.
         """
@@ -295,7 +295,7 @@ class Closes(AskedTest):
         self.assertEqual(self.standing(), {"ada": RANKS})
         self.done("log --check")
 
-    def test_a_click_before_an_early_one_that_the_count_finds(self) -> None:
+    def test_a_click_before_an_early_one_that_the_count_finds(self):
         self.begun()
         # too early without that word: then nothing is asked
         self.later(700)
@@ -311,7 +311,7 @@ class Closes(AskedTest):
         ended = self.election("count")
         self.assertIn("these letters arrived in time, and wait: 1;", ended.faults)
 
-    def test_in_a_secret_vote_numbers_alone_elsewhere_than_at_a_terminal(self) -> None:
+    def test_in_a_secret_vote_numbers_alone_elsewhere_than_at_a_terminal(self):
         self.write("poll.toml", f"secret = true\n{elections.POLL}")
         self.done("codes")
         self.begun("--slips", "yes", ada=RANKS, ben=RANKS)
@@ -338,7 +338,7 @@ class Pages(AskedTest):
         "Note: the page there is the one of before: upload the folder call, then run this again."
     )
 
-    def change(self) -> None:
+    def change(self):
         page = self.web / "index.html"
         page.write_text(page.read_text().replace("</body>", "<script>alert(1)</script></body>"))
 
@@ -352,7 +352,7 @@ class Pages(AskedTest):
         said = " ".join(re.sub("<[^>]+>", "", self.read(name).decode()) for name in files)
         return " ".join(said.split())
 
-    def test_one_that_nobody_uploaded(self) -> None:
+    def test_one_that_nobody_uploaded(self):
         """An extension makes a new one, which goes up before its letters go out: they ask
         themselves.
         """
@@ -391,7 +391,7 @@ class Pages(AskedTest):
         self.assertNotIn("Note: the page", self.told("add --box"))
         self.done("log --check")
 
-    def test_one_with_a_script_more(self) -> None:
+    def test_one_with_a_script_more(self):
         """It stops each close until the right one is found; each day with it is told."""
         self.begun(ada=RANKS)
         self.change()
@@ -415,7 +415,7 @@ class Pages(AskedTest):
         told = rf"When the secretary asked the web host on \w+, (\d+) .{{20,60}}, the page at {self.host.at} {DOUBT}"
         self.assertEqual(re.findall(told, self.published()), [days[0], days[2]] * 2)
 
-    def test_one_that_does_not_come(self) -> None:
+    def test_one_that_does_not_come(self):
         """It is no other one, and what came by clicks is kept. A host may show another one to
         browsers, and one with a policy runs no script.
         """
@@ -443,7 +443,7 @@ class Pages(AskedTest):
 class Moved(AskedTest):
     """`call --at` another web host, after letters went out with links to the page of before."""
 
-    def test_what_the_page_of_before_goes_on_taking(self) -> None:
+    def test_what_the_page_of_before_goes_on_taking(self):
         self.begun(ada=RANKS)
         self.add_box()
         before, file = self.host.at, self.file()
@@ -470,7 +470,7 @@ class Moved(AskedTest):
         file.write_bytes(FIRST)
         self.assertIn("Note: 1 record that it had it has no more.", self.add_box())
 
-    def test_a_new_link_for_who_has_used_one_up(self) -> None:
+    def test_a_new_link_for_who_has_used_one_up(self):
         links = self.begun()
         for number in range(MOST):
             self.click("ada", f"{number % 4 + 1},1,1,1")
@@ -496,7 +496,7 @@ class Moved(AskedTest):
         self.done("close --early")
         self.refused("roll --new-link ada", none.format("ada"), status=2)
 
-    def test_the_call_goes_to_everybody_again(self) -> None:
+    def test_the_call_goes_to_everybody_again(self):
         self.begun()
         self.demand_reached(*NAMES)
         self.move()
@@ -526,13 +526,13 @@ class Moved(AskedTest):
         self.done("letters result --at https://club.example/result/")
         self.demand_reached(*NAMES)
 
-    def test_without_a_box_a_letter_is_as_good_as_before(self) -> None:
+    def test_without_a_box_a_letter_is_as_good_as_before(self):
         self.done("call", *boxes.UNTIL, "--to", "x@club.example", "--at", "https://club.example/")
         self.done("letters call")
         self.done("call --at https://club.example/moved/")
         self.demand_reached(*NAMES)
 
-    def demand_reached(self, *names: str) -> None:
+    def demand_reached(self, *names: str):
         """The call has reached these electors, and nobody else."""
         others = [name for name in NAMES if name not in names]
         self.assertEqual(self.status()["not_reached"], dict.fromkeys(others, "no letter"))

@@ -58,12 +58,12 @@ class HeldTest(LettersTest):
             self.assertIn(part, line)
         return ended
 
-    def assert_left(self, waiting: int, *lines: str) -> None:
+    def assert_left(self, waiting: int, *lines: str):
         self.assertEqual((self.numbers()["waiting"], self.lines()), (waiting, list(lines)))
 
 
 class Listed(HeldTest):
-    def test_the_table_the_refusals_and_the_question(self) -> None:
+    def test_the_table_the_refusals_and_the_question(self):
         looks_like = (
             "line 1 is a ballot, and a line of a quotation or a signature looks like an answer"
         )
@@ -126,7 +126,7 @@ class Listed(HeldTest):
         said = "\n6 letters wait until you have looked at them: debvote-election held\n"
         self.tells("status", said)
 
-    def test_one_letter_whole(self) -> None:
+    def test_one_letter_whole(self):
         above = "On Mon, 23 Nov 2026 at 09:00, Vote wrote:"
         self.add(letter("ada", f"ada {RANKS}\nSo be it.\n\n{above}\n> line\n\nBy the way\n"))
         self.assertEqual(
@@ -158,11 +158,11 @@ class Listed(HeldTest):
 
 
 class Entered(HeldTest):
-    def setUp(self) -> None:
+    def setUp(self):
         super().setUp()
         self.add(worded("ada"), letter("ben", "I am for the hall"))
 
-    def test_it_is_entered_once(self) -> None:
+    def test_it_is_entered_once(self):
         self.agrees("1 --enter", f"1 counted  ada: {LAKE}")
         self.assertEqual(self.acts()[-1], ("enter", {"letters": [1], "lines": [3]}))
         self.tells("held 1", "It was entered.")
@@ -177,7 +177,7 @@ class Entered(HeldTest):
         self.assertIn("--wait", self.stops("3 --enter --yes", said).faults)
         self.assert_left(1, f"ada {RANKS}")
 
-    def test_wrong_words(self) -> None:
+    def test_wrong_words(self):
         for words in (
             "--set-aside",
             "1 --enter --wait",
@@ -194,7 +194,7 @@ class Entered(HeldTest):
         said = "--force: it is for one letter; nothing was changed: name one number\n"
         self.assert_refused("held 1 2 --enter --force not-tied --force voted-since", 2, said)
 
-    def test_set_aside_voted_since_and_at_the_close(self) -> None:
+    def test_set_aside_voted_since_and_at_the_close(self):
         self.tells("held 1 2 --set-aside", "No letter waits.")
         self.tells("held", "Set aside: 1, 2")
         self.tells("held 1 --wait", "1 letter waits.")
@@ -214,7 +214,7 @@ class Entered(HeldTest):
         self.agrees("1 --enter --force voted-since")
         self.assertEqual((self.lines(), self.late_lines()), ([f"ada {OTHER}", f"ada {RANKS}"], []))
 
-    def test_several_in_the_order_of_their_times(self) -> None:
+    def test_several_in_the_order_of_their_times(self):
         """Also of one elector; a letter is tied by its address and its own mark together, and a
         line ties nobody.
         """
@@ -238,7 +238,7 @@ class Entered(HeldTest):
             self.told(f"held {number} --enter --force not-tied")
         self.assert_left(1, *lines, f"eve {RANKS}", f"fay {RANKS}", f"hal {RANKS}")
 
-    def test_two_of_one_time_that_differ_and_one_of_before_the_call(self) -> None:
+    def test_two_of_one_time_that_differ_and_one_of_before_the_call(self):
         self.add(ballot("cleo"), ballot("cleo", OTHER, number=2))
         said = "another ballot of cleo has the same time, 2026-11-23 10:00:00 UTC"
         self.assertEqual(self.told("held").count(said), 2)
@@ -257,7 +257,7 @@ class Entered(HeldTest):
         self.told("held 5 --set-aside")
         self.tells("close", "1 letter that arrived before the call did not go in.")
 
-    def test_at_no_known_time_beside_another(self) -> None:
+    def test_at_no_known_time_beside_another(self):
         timeless = {"time": None}
         self.add(
             worded("fay"),
@@ -273,7 +273,7 @@ class Entered(HeldTest):
             self.told(f"held {number} --enter --force not-tied --force voted-since")
         self.assertEqual(self.lines(), [f"fay {RANKS}", f"fay {RANKS}", f"fay {OTHER}"])
 
-    def test_what_the_secretary_types(self) -> None:
+    def test_what_the_secretary_types(self):
         """The ballot has the time of the letter, and is tied to it, so nobody is told that the
         letter waits. Who types has read it.
         """
@@ -311,7 +311,7 @@ class Entered(HeldTest):
         lines = f"ada {RANKS}", f"fay {OTHER}", "gus 1,2", f"fay {RANKS}", f"gus {RANKS}"
         self.assertEqual(self.lines(), [*lines])
 
-    def test_what_was_typed_and_taken_back_is_typed_again(self) -> None:
+    def test_what_was_typed_and_taken_back_is_typed_again(self):
         """Its own line may say something else."""
         said = "letter 1: its ballot was typed, and taken back; nothing was changed: type it again with debvote-election held 1 --as LINE"
         for _ in range(2):
@@ -321,7 +321,7 @@ class Entered(HeldTest):
         self.told(f"held 1 --as 'ada {RANKS}'")
         self.assert_left(1, f"ada {RANKS}")
 
-    def test_copies_of_what_was_typed_struck_or_taken_back(self) -> None:
+    def test_copies_of_what_was_typed_struck_or_taken_back(self):
         """What was entered of a letter itself lies not between it and its copy."""
         came, again = (
             [
@@ -345,7 +345,7 @@ class Entered(HeldTest):
         self.stops("6 --enter --yes", f"letter 6: it has 1 ballot{LIKE_ANSWERS}")
         self.assert_left(3, f"fay {OTHER}")
 
-    def test_a_copy_waits_behind_another_ballot_than_was_typed(self) -> None:
+    def test_a_copy_waits_behind_another_ballot_than_was_typed(self):
         """Not if what was typed is taken back."""
         for number, name, is_undone in ((3, "fay", False), (6, "gus", True)):
             typed = letter(name, "the hall, please\n", number=7)
@@ -358,7 +358,7 @@ class Entered(HeldTest):
             found = [part in said for part in (f"and {name} has a ballot of", "1 copy passed over")]
             self.assertEqual(found, [not is_undone, is_undone], said)
 
-    def test_a_letter_that_another_desk_enters_is_not_set_aside(self) -> None:
+    def test_a_letter_that_another_desk_enters_is_not_set_aside(self):
         enter = "held", 1, "--as", f"ada {RANKS}"
         self.overtaken(held, "chosen_letters", enter, ("held", "1", "--set-aside"))
         self.assert_left(1, f"ada {RANKS}")
@@ -380,11 +380,11 @@ class Couple(HeldTest):
     left = "{} has no ballot of letter 1; debvote-election held 1 --as LINE --force not-tied enters one\n".format
     untied = "letter 1: its sender and its subject do not show that it is of ben"
 
-    def setUp(self) -> None:
+    def setUp(self):
         super().setUp()
         self.change_roll("ben@", "ada@")
 
-    def test_one_after_the_other(self) -> None:
+    def test_one_after_the_other(self):
         self.add(letter("ada", "Ben is for the town hall, and I am for the lake."))
         self.tells(f"held {self.as_ada}", self.left("ben"))
         self.assert_left(0, self.ada)
@@ -414,7 +414,7 @@ class Couple(HeldTest):
         closed = "the vote is closed, and its ballots stay; if this one is wrong, see debvote-election reopen"
         self.stops(f"1 --as 'ada {OTHER}'", said(closed))
 
-    def test_both_in_one_command(self) -> None:
+    def test_both_in_one_command(self):
         self.add(letter("ada", f"{self.ada}\n{self.ben}\ncleo {RANKS}"))
         self.stops("1 --enter", f"letter 1: it has 3 ballots; {TYPE_IT}")
         said = "letter 1: 2 of these lines are ballots of ada; nothing was changed: name the one that counts"
@@ -435,7 +435,7 @@ class Couple(HeldTest):
         self.told(f"held 2 --as '{self.ben}' --force not-tied --force voted-since")
         self.assert_left(0, self.ada, self.ben)
 
-    def test_it_is_said_who_has_voted_since(self) -> None:
+    def test_it_is_said_who_has_voted_since(self):
         both = letter("ada", f"{self.ada}\n{self.ben}\ncleo {RANKS}")
         self.add(both, ballot("ada", OTHER, time=LATER, number=2))
         self.tells("held", "        several lines of it are ballots; ada has voted since\n")
@@ -450,7 +450,7 @@ class RealNamesOfLetters(HeldTest):
     members = "who,mail,name\nAda Lovelace,ada@club.example,ada\nDan,dan@club.example,dan\n"
     members += "Ben Blum,ben@club.example,ben\nBen Blum,cleo@club.example,cleo\n"
 
-    def test_that_of_one_elector_and_that_of_two(self) -> None:
+    def test_that_of_one_elector_and_that_of_two(self):
         self.add(
             letter("ada", "I am for the lake"),
             letter("ben", "hello"),
@@ -479,7 +479,7 @@ class OtherVote(HeldTest):
     of_other = f"it has the mark of another vote, [{other}]"
     untied = "letter {}: its sender and its subject do not show that it is of {}".format
 
-    def test_it_is_told_and_entered_by_force(self) -> None:
+    def test_it_is_told_and_entered_by_force(self):
         subject = {"subject": f"x [{self.other}]"}
         self.add(ballot("ada", **subject), ballot("ben", **subject), letter("cleo", "hello"))
         said = f"\nLetters of other votes, which are passed over here: 2 with [{self.other}].\n1 letter waits.\n"
@@ -501,7 +501,7 @@ class OtherVote(HeldTest):
         self.stops("4 --enter", self.untied(4, "dan"))
         self.stops("5 --enter", f"letter 5: {self.of_other}")
 
-    def test_what_may_be_of_this_vote_is_entered_by_force_too(self) -> None:
+    def test_what_may_be_of_this_vote_is_entered_by_force_too(self):
         """Of a call that was taken back, whose options may have had another order, and with two
         marks.
         """
@@ -538,7 +538,7 @@ class CodesOnRoll(HeldTest):
 
     poll, codes_words = f"{elections.POLL}secret = true\n", ("--on-roll",)
 
-    def test_several_by_force(self) -> None:
+    def test_several_by_force(self):
         query = "SELECT name FROM elector WHERE length(name) = 10 ORDER BY name LIMIT 2"
         lines = [f"{code} {RANKS}" for (code,) in self.book.rows(query)]
         said = self.add(*(letter("ada", line, number=len(line)) for line in lines))
@@ -554,7 +554,7 @@ class Answers(QuestionsTest, HeldTest):
 
     def test_a_ballot_of_which_only_some_answers_have_a_later_one_is_never_entered_whole(
         self,
-    ) -> None:
+    ):
         """Else an older answer takes the place of a newer one. The line to type is named."""
         self.add(
             letter("ada", "Hello:\nada A 1,2 B 1,2,3 C 1,2,3,4\n"),
@@ -575,7 +575,7 @@ class Answers(QuestionsTest, HeldTest):
 class InARow(LettersTest):
     """Many letters at once: `held 2-9 --set-aside`."""
 
-    def test_those_of_one_reason(self) -> None:
+    def test_those_of_one_reason(self):
         self.add(
             letter("ada", "hello\n"),
             letter("ben", f"ben {RANKS}\n\nno\n"),

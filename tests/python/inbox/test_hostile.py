@@ -45,7 +45,7 @@ def timed(*letters: bytes, **known: object) -> tuple[list[str], float]:
 
 
 class Bombs(unittest.TestCase):
-    def test_each_ends_soon(self) -> None:
+    def test_each_ends_soon(self):
         """None of 300 KB takes twice as long as one with as many words, none of any size twenty
         times.
         """
@@ -170,7 +170,7 @@ class Bombs(unittest.TestCase):
         # many lines in the head are no trouble
         self.assertEqual(outcomes(letter("ada", BALLOT, head="X: y\n" * 40_000)), [IN])
 
-    def test_more_lines_than_debvote_takes_at_once(self) -> None:
+    def test_more_lines_than_debvote_takes_at_once(self):
         """It is asked in parts. Else some hundred letters of a stranger would stop each command
         that judges letters.
         """
@@ -190,7 +190,7 @@ class Costs(unittest.TestCase):
         "longest_line": 2_000,
     }
 
-    def test_a_quotation_and_several_questions(self) -> None:
+    def test_a_quotation_and_several_questions(self):
         quoted, answers = (
             f"\n\n{HEADS[0]}\n{marked_by('> ', OURS)}\n",
             "ada\nA 1,2,3\nB 1,2,3\nC 1,2,3\nD 1,2,3",
@@ -205,7 +205,7 @@ class Costs(unittest.TestCase):
         self.assertLess(max(four, in_one_line), 3 * one)
         self.assertLess(above, 2 * four)
 
-    def test_twice_as_many_lines_cost_twice_as_much(self) -> None:
+    def test_twice_as_many_lines_cost_twice_as_much(self):
         for line in rows(
             f"""
 some words
@@ -255,7 +255,7 @@ class Random(unittest.TestCase):
         texts = *found.body.lines, found.subject, found.shown_sender, found.sender
         return "\n".join((*texts, *map(shown_text, found.attachments))).encode()
 
-    def test_bytes_of_any_kind(self) -> None:
+    def test_bytes_of_any_kind(self):
         """What is read of them can be shown and kept."""
         chance = random.Random(1)
         for _ in range(3_000):
@@ -274,7 +274,7 @@ class Random(unittest.TestCase):
             self.assertEqual(found.body.lines[0][-1], "1")
             self.shown(found)
 
-    def test_no_ballot_goes_in_but_one_that_is_there(self) -> None:
+    def test_no_ballot_goes_in_but_one_that_is_there(self):
         chance = random.Random(7)
         letters = [self.changed(chance, b'\r\n \t;:="<>/\0\x80', 4) for _ in range(1_500)]
         found = collections.Counter(one for data in letters for one in outcomes(data))
@@ -282,7 +282,7 @@ class Random(unittest.TestCase):
         self.assertLessEqual({one for one in found if one[:3] == "in:"}, {IN, "in: ada 1,2,-,3"})
         self.assertGreater(found[IN], 80)
 
-    def test_many_at_once(self) -> None:
+    def test_many_at_once(self):
         """Each takes no longer than among few."""
         several = [
             letter(name, f"{name} {RANKS}", number=number) for number in range(50) for name in NAMES

@@ -44,7 +44,7 @@ def once_more(data: bytes) -> bytes:
 
 
 class Adding(LettersTest):
-    def test_plain_ballots_go_in_and_others_wait(self) -> None:
+    def test_plain_ballots_go_in_and_others_wait(self):
         ada = self.of_this_vote(letter("ada", f"ada {RANKS}\n"))
         subject = b"=?utf-8?q?f=C3=BCr_den_See?="
         ben = letter("ben", "I vote for the lake.").replace(b"my ballot", subject)
@@ -93,7 +93,7 @@ class Adding(LettersTest):
         self.assertIn("   new  2026-11-23 10:00:00 UTC  gus@club.example", said)
         self.assertEqual((said.count("no ballot found"), "4 letters wait" in said), (1, True), said)
 
-    def test_undo_is_named_where_something_can_be_taken_back(self) -> None:
+    def test_undo_is_named_where_something_can_be_taken_back(self):
         said = r"\nNext: debvote-election held, which lists the letters that wait\n\Z"
         self.assertRegex(self.add_hello("ada"), said)
         said = r"; debvote-election undo takes back what was entered last\n\Z"
@@ -101,7 +101,7 @@ class Adding(LettersTest):
         self.told("strike 1 --because 'a test'")
         self.assertNotIn("undo", self.add_hello("cleo"))
 
-    def test_what_may_be_text_of_another_letter_is_kept_once(self) -> None:
+    def test_what_may_be_text_of_another_letter_is_kept_once(self):
         """Alone it is a letter of its own."""
         inner = self.of_this_vote(ballot("ben"))
         for told in ("2 new letters; 0 came before.", "0 new letters; 2 came before."):
@@ -117,7 +117,7 @@ class Adding(LettersTest):
             self.told("add", "--yes", *("outer.mbox", self.box(alone))[::order])
             self.assertEqual(self.stands(name), RANKS)
 
-    def test_a_mailbox_longer_than_any_file_of_lines(self) -> None:
+    def test_a_mailbox_longer_than_any_file_of_lines(self):
         """Else what is beyond that length would be in no list, and nobody would be told."""
         picture = f"--b\nContent-Type: image/png\n\n{'x' * 70}\n{f'{chr(120) * 70}{chr(10)}' * 100_000}--b--\n"
         long = [
@@ -129,7 +129,7 @@ class Adding(LettersTest):
         self.tells("add --yes", said, given=self.of_this_vote(mailbox(*long, ballot("ben"))))
         self.assertEqual(self.lines(), [f"ada {RANKS}", f"ben {RANKS}"])
 
-    def test_a_line_for_each_ballot(self) -> None:
+    def test_a_line_for_each_ballot(self):
         """Greetings, farewells, signatures, quotations and what a telephone adds are no words to be
         read. What goes in is told as it is written.
         """
@@ -153,7 +153,7 @@ class Adding(LettersTest):
         desk.until("Enter 2 ballots?")
         return desk
 
-    def test_other_acts_between_question_and_answer(self) -> None:
+    def test_other_acts_between_question_and_answer(self):
         desk = self.adding()
         self.cast(f"ada {OTHER}")
         self.assertIn("a later ballot of ada, of ", desk.after("y\n", "Enter 1 ballot?"))
@@ -164,7 +164,7 @@ class Adding(LettersTest):
         desk.end()
         self.assertEqual(self.exported(), (f"ada {OTHER}\n", ""))
 
-    def test_what_nobody_agreed_to_goes_in_next_time_unless_it_is_kept_out(self) -> None:
+    def test_what_nobody_agreed_to_goes_in_next_time_unless_it_is_kept_out(self):
         desk = self.adding()
         said = desk.after("n\n", "keeps one out.")
         self.assertIn(
@@ -176,7 +176,7 @@ class Adding(LettersTest):
         self.add_hello("cleo")
         self.assertEqual(self.lines(), [f"ada {RANKS}"])
 
-    def test_an_older_letter_after_lines(self) -> None:
+    def test_an_older_letter_after_lines(self):
         """A line that was refused is no later ballot, and one that was struck, or is late, holds
         back no letter.
         """
@@ -196,10 +196,10 @@ class Adding(LettersTest):
         self.assertEqual({self.stands(name) for name in ("cleo", "dan", "eve", "fay")}, {RANKS})
         self.assertEqual(self.late_lines(), [f"eve {OTHER}"])
 
-    def test_an_older_letter_after_the_later_ballot_is_struck_or_taken_back(self) -> None:
+    def test_an_older_letter_after_the_later_ballot_is_struck_or_taken_back(self):
         """Each letter that is judged otherwise then is named, and goes in with the next add."""
 
-        def assert_named(typed: str, number: int, name: str) -> None:
+        def assert_named(typed: str, number: int, name: str):
             named = f"\nletter {number}, from {name}@club.example, 2026-11-23 10:00:00 UTC: it goes in with the next add of letters\n"
             self.assertEqual(self.tells(typed, named).count("\nletter "), 1)
 
@@ -216,7 +216,7 @@ class Adding(LettersTest):
         self.add(ballot("dan"), says="Passed over, since a later letter of its elector went in")
         assert_named("strike 5 --because 'somebody else wrote it'", 6, "dan")
 
-    def test_plain_ballots_in_time_that_were_added_after_the_close(self) -> None:
+    def test_plain_ballots_in_time_that_were_added_after_the_close(self):
         """None goes in, as the first envelope of the book or a later one: a ballot that becomes
         late is one that nobody misses.
         """
@@ -244,7 +244,7 @@ class Adding(LettersTest):
         self.told(f"{result}vote")
         self.assertEqual(self.exported(), (f"ada {RANKS}\n", ""))
 
-    def test_nothing_of_files_with_a_fault_is_entered_or_kept(self) -> None:
+    def test_nothing_of_files_with_a_fault_is_entered_or_kept(self):
         self.write("lines", f"ben {RANKS}\n")
         self.write("inbox.mbox", mailbox(ballot("ada")))
         self.write("scan.pdf", "%PDF-1.7")
@@ -297,7 +297,7 @@ class Adding(LettersTest):
         said = "it does not look like a letter, and was passed over; if it is a letter, save it as .eml\n"
         self.tells("add --look box", *told, f"box/notes.txt: {said}")
 
-    def test_letters_of_after_the_first_close(self) -> None:
+    def test_letters_of_after_the_first_close(self):
         self.set_clock("2026-11-24T09:00:00+00:00")
         self.cast(f"ada {RANKS}")
         self.told("close")
@@ -325,7 +325,7 @@ class Adding(LettersTest):
         self.assertEqual(self.lines(), [f"ada {RANKS}", f"dan {RANKS}"])
         self.assertEqual(self.late_lines(), [f"ben {RANKS}", f"cleo {RANKS}"])
 
-    def test_undo_names_no_command_that_would_stop(self) -> None:
+    def test_undo_names_no_command_that_would_stop(self):
         self.cast(f"ada {OTHER}")
         # one of who has voted since, of the time of another ballot, with the mark of another vote,
         # and of an elector who is not shown
@@ -341,7 +341,7 @@ class Adding(LettersTest):
             self.agrees(f"{number} --enter --force not-tied --force voted-since")
             self.tells("undo --yes", "; debvote-election held lists these letters\n")
 
-    def test_undo_and_strike_of_ballots_of_letters(self) -> None:
+    def test_undo_and_strike_of_ballots_of_letters(self):
         box = *map(ballot, ("ada", "ben", "cleo")), letter("dan", "hello")
         self.add(*box)
         self.tells("undo --yes", "debvote-election held lists these letters\n")
@@ -383,7 +383,7 @@ class ReadOnce(LettersTest):
         self.assertLessEqual({said for _, said in asked}, {"free"}, typed)
         return [task for task, _ in asked]
 
-    def test_of_lines_twice_or_three_times(self) -> None:
+    def test_of_lines_twice_or_three_times(self):
         """Three times where a line is no ballot: then it is asked whether all look like a table."""
         lines = f"Ada {RANKS}\nGsu {RANKS}\nben {RANKS}\n"
         for typed, given, at_most in (
@@ -417,7 +417,7 @@ class ReadOnce(LettersTest):
         }.items():
             self.assertLessEqual(len(self.runs(typed)), at_most, typed)
 
-    def test_judging_again_asks_debvote_nothing(self) -> None:
+    def test_judging_again_asks_debvote_nothing(self):
         hello = letter("ben", f"Hello:\nben {RANKS}")
         self.write("inbox.mbox", mailbox(letter("ada", "ada 1,2,3"), hello, ballot("cleo")))
         for asked in (["explain"], []):
@@ -435,7 +435,7 @@ class ReadOnce(LettersTest):
         self.assertEqual(self.runs("held"), [])
         self.assertIn("no ballot found; has voted since", self.shown)
 
-    def test_no_letter_slows_down_later_commands(self) -> None:
+    def test_no_letter_slows_down_later_commands(self):
         """Whatever is in it: of each letter some hundred lines are kept, and no command asks
         debvote about them again.
         """
@@ -467,12 +467,12 @@ class InTime(LettersTest):
     `close`, and after it `count` and `publish`.
     """
 
-    def setUp(self) -> None:
+    def setUp(self):
         super().setUp()
         self.cast(f"cleo {RANKS}", f"ben {OTHER}")
         self.wordy = letter("ada", f"I thought about it for 3 days:\n\nada {OTHER}\n")
 
-    def assert_stops_count(self, number: int = 1) -> None:
+    def assert_stops_count(self, number: int = 1):
         """Nothing is counted, nothing is published, and each says which letter it is."""
         cures = "held NUMBER --set-aside", "reopen --because TEXT"
         for typed in ("count", "publish", "count --casting 'At the lake'"):
@@ -485,7 +485,7 @@ class InTime(LettersTest):
         )
         self.assertEqual(self.numbers()["stopping"], [number])
 
-    def assert_tie(self, *typed: str) -> None:
+    def assert_tie(self, *typed: str):
         """These commands count, and find a tie."""
         self.assertEqual({self.election(one).status for one in typed}, {1}, typed)
 
@@ -494,7 +494,7 @@ class InTime(LettersTest):
         self.assert_tie("count", publish)
         return self.read("result/index.html").decode()
 
-    def test_what_was_added_after_the_close_is_set_aside_at_any_time(self) -> None:
+    def test_what_was_added_after_the_close_is_set_aside_at_any_time(self):
         """With other words, or one to which nobody agreed; no ballot, or one that came after the
         publication.
         """
@@ -524,7 +524,7 @@ class InTime(LettersTest):
         self.assert_waiting(2)
         self.assert_counted()
 
-    def test_forced(self) -> None:
+    def test_forced(self):
         """The page says how many, and the same letters stop nothing again; another one does."""
         self.told("close")
         self.add(self.wordy, letter("dan", "hello"))
@@ -553,7 +553,7 @@ class InTime(LettersTest):
         self.assertEqual(self.read("result/index.html"), before)
         self.assert_tie("publish --force --because 'nor does Fay'", "publish")
 
-    def test_an_older_letter_stops_nothing(self) -> None:
+    def test_an_older_letter_stops_nothing(self):
         """It is told in one line and in its receipt. If the later ballot is struck, it goes in."""
         self.add(ballot("ada", time=NOON))
         older = ballot("ada", OTHER, number=2)
@@ -573,7 +573,7 @@ class InTime(LettersTest):
         self.add(older, says="4 counted  ada: In the town hall")
         self.told("close")
 
-    def test_letters_of_another_vote_stop_nothing(self) -> None:
+    def test_letters_of_another_vote_stop_nothing(self):
         """Two votes have one mailbox: each right letter of one of them would stop the close of the
         other, and its sender would be told.
         """
@@ -592,7 +592,7 @@ class InTime(LettersTest):
         )
         self.tells("close", said)
 
-    def test_forced_at_the_close(self) -> None:
+    def test_forced_at_the_close(self):
         self.add(self.wordy)
         # before the close a count is no result
         self.assert_tie("count")
@@ -615,7 +615,7 @@ class InTime(LettersTest):
         self.assertEqual(self.numbers()["stopping"], [2])
         self.assert_refused("publish result-3", 9, WAIT("1, 2"))
 
-    def test_one_that_arrived_at_no_known_time(self) -> None:
+    def test_one_that_arrived_at_no_known_time(self):
         """Nobody knows that it came too late: while the vote is closed it waits, and then it
         counts.
         """
@@ -631,7 +631,7 @@ class InTime(LettersTest):
         self.told("reopen --because 'Dan has asked'")
         self.tells("held 1 --enter --force not-tied --force voted-since", "\n4 counted  dan: ")
 
-    def test_one_with_a_time_after_it(self) -> None:
+    def test_one_with_a_time_after_it(self):
         """The time of the ballot is only that at which it was entered: the next letter may be the
         later one, and is not passed over.
         """
@@ -649,7 +649,7 @@ class AtTheEnd(LettersTest):
         detail = self.last("close")
         return detail["waiting"], detail["after_end"], detail.get("because")
 
-    def test_a_letter_in_time_needs_a_reason(self) -> None:
+    def test_a_letter_in_time_needs_a_reason(self):
         """Letters of after the end need no act at the close, whatever else they wait for: the page
         has no reason to tell. A copy is none.
         """
@@ -684,14 +684,14 @@ class Signed(LettersTest):
 
     call_words = None
 
-    def setUp(self) -> None:
+    def setUp(self):
         super().setUp()
         self.keys = pgp.keys()
         self.set_clock("2026-11-20T09:00:00+00:00")
         self.call_with("ada", "cleo")
         self.set_clock(self.now)
 
-    def call_with(self, *names: str) -> None:
+    def call_with(self, *names: str):
         keys = {name: self.keys.fingerprints[name] for name in names}
         rows = "".join(
             f"{name.title()},{name}@club.example,{keys.get(name, '')}\n" for name in self.names
@@ -705,7 +705,7 @@ class Signed(LettersTest):
             f"Note: the list of members has no key for {without}; their letters wait.\n",
         )
 
-    def test_a_keyring_that_lacks_a_key(self) -> None:
+    def test_a_keyring_that_lacks_a_key(self):
         self.write("ring", self.keys.ring("ada"))
         said = "it lacks the keys that the list of members has for: cleo; nothing was changed: export these keys, too"
         self.assert_refused("call --keyring ring", 9, said)
@@ -714,7 +714,7 @@ class Signed(LettersTest):
         text = f"{name} {RANKS}\n[{self.mark}]\n"
         return letter(name, self.keys.inline(name, text, "20261123T095000"), number=number)
 
-    def test_one_that_waited_for_a_key(self) -> None:
+    def test_one_that_waited_for_a_key(self):
         """One that was set aside stays so, and one that was entered by hand; also their copies:
         with another head, and one that anybody sends with another Message-ID, which only its
         signature shows.
@@ -738,7 +738,7 @@ class Signed(LettersTest):
         self.assertEqual(self.lines(), [f"eve {RANKS}", f"ada {RANKS}", f"ben {RANKS}"])
         self.told("close")
 
-    def test_one_that_was_set_aside_stays_so(self) -> None:
+    def test_one_that_was_set_aside_stays_so(self):
         """Also its copies, which come when the key has come: with another head, and one that
         anybody sends with another Message-ID.
         """
@@ -763,7 +763,7 @@ class Signed(LettersTest):
         with mock.patch.object(signature, "SECONDS", 0.2):
             return self.in_this_process(*words, path=f"{place}:")
 
-    def test_one_about_which_gpgv_was_slow(self) -> None:
+    def test_one_about_which_gpgv_was_slow(self):
         words = ("add", "--yes", str(self.box(self.signed("ada"))))
         said = "gpgv did not answer about its signature in time"
         self.assertIn(said, self.while_gpgv_is_slow(*words))
@@ -773,7 +773,7 @@ class Signed(LettersTest):
 class OwnMarks(LettersTest):
     """What an election knows of its electors' own marks."""
 
-    def test_a_letter_needs_that_of_its_elector(self) -> None:
+    def test_a_letter_needs_that_of_its_elector(self):
         of_before, poll = self.of_this_vote(ballot("eve")), elections.ANY_MARK
         self.change_roll("eve@", "eve@new.")
         said = self.add(
@@ -800,7 +800,7 @@ class SecretOwnMarks(OwnMarks):
 
     poll = elections.POLL + "secret = true\n"
 
-    def test_the_mark_of_the_poll_with_names_is_that_of_another_vote(self) -> None:
+    def test_the_mark_of_the_poll_with_names_is_that_of_another_vote(self):
         of_names = hashlib.sha256(queries.sealed(self.book, POLL_WITH_NAMES)).hexdigest()[:16]
         said = f"\nLetters of other votes, which are passed over here: 1 with [{of_names}].\n"
         self.add(ballot("ada").replace(elections.ANY_MARK.encode(), of_names.encode()), says=said)

@@ -10,7 +10,7 @@ from tests.support.letters import repaired_line, rows
 
 
 class Lines(unittest.TestCase):
-    def test_what_of_a_line_is_changed(self) -> None:
+    def test_what_of_a_line_is_changed(self):
         for wanted, lines in {
             "ada 1,2": rows(
                 """
@@ -43,7 +43,7 @@ ada *1,2*
             for came in lines:
                 self.assertEqual(repaired_line(came.encode()).decode(), wanted, came)
 
-    def test_what_is_not_changed(self) -> None:
+    def test_what_is_not_changed(self):
         """A line tabulator, quotation marks within the line, points, a capital that is no rank,
         letters not in ASCII, half a point, ..; nor a line that is right.
         """
@@ -80,7 +80,7 @@ a -
             came = line.encode("utf-8", "surrogateescape")
             self.assertEqual(repaired_line(came), came)
 
-    def test_names_of_lines_and_what_takes_no_time(self) -> None:
+    def test_names_of_lines_and_what_takes_no_time(self):
         for line, name in {
             b"ada 1,2": b"ada",
             b"ada-b.9,1": b"ada-b.9",
@@ -95,7 +95,7 @@ a -
         self.assertEqual(repaired_line(b"a" + b" \t" * 1_000_000 + b"1"), b"a 1")
         self.assertEqual(len(repaired_line(b", " * 1_000_000)), 1_000_000)
 
-    def test_ends_and_marks(self) -> None:
+    def test_ends_and_marks(self):
         mark = b"\xef\xbb\xbf"
         for data, first, lines in (
             *(
@@ -118,7 +118,7 @@ a -
         lines = lines_in(mark + b"Ada;1\r\nben 2\r\r\ncleo  3\n", "f", LONGEST_LINE)
         self.assertEqual([line.unframed for line in lines], [b"Ada;1", b"ben 2", b"", b"cleo  3"])
 
-    def test_nothing_steers_the_terminal_and_a_long_line_is_cut(self) -> None:
+    def test_nothing_steers_the_terminal_and_a_long_line_is_cut(self):
         for line, shown in {
             b"a\x1b[2Jb\t\r\n\x00\xff": "a\\u001B[2Jb\\t\\r\\n\\u0000\\xff",
             # so what was changed of a line is seen

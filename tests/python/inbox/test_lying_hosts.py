@@ -34,7 +34,7 @@ class Lies(boxes.BoxElectionTest):
         records = [self.record(f"{name} {OTHER}", now(), "2" * 16) for _ in range(count)]
         return [re.sub(rb"(?<=X-Proof: )\w+", proof, one) for one in records]
 
-    def test_what_it_makes_changes_and_dates_anew(self) -> None:
+    def test_what_it_makes_changes_and_dates_anew(self):
         """What it makes or changes waits for nobody, and what it dates anew waits; what is gone is
         told once.
         """
@@ -66,7 +66,7 @@ class Lies(boxes.BoxElectionTest):
             self.assertEqual(self.standing(), {"ada": RANKS})
         self.assertIn("it is older than", self.told("held"))
 
-    def test_it_exchanges_the_times_of_two_ballots(self) -> None:
+    def test_it_exchanges_the_times_of_two_ballots(self):
         """The older one would count. Asked at once, or of two askings."""
         self.begun()
         for name in ("ada", "ben"):
@@ -88,7 +88,7 @@ class Lies(boxes.BoxElectionTest):
         # what waits is entered by who knows better
         self.assertEqual(self.told("held").count(why), 2)
 
-    def test_it_drops_a_ballot_and_dates_an_older_one_anew(self) -> None:
+    def test_it_drops_a_ballot_and_dates_an_older_one_anew(self):
         """A click of ten was dated eleven, and replaced a letter of half past ten."""
         self.begun()
         when = now().astimezone(BERLIN)
@@ -111,7 +111,7 @@ class Lies(boxes.BoxElectionTest):
         said = f"{nine.removesuffix(':00')} (UTC+01:00) has arrived. It counts"
         self.assertIn(said, self.receipts()["ben"])
 
-    def test_each_that_does_not_open_alone_beside_good_ones(self) -> None:
+    def test_each_that_does_not_open_alone_beside_good_ones(self):
         self.begun(ada=RANKS)
         good, when, mark = self.records(), now(), self.mark()
         line, sent = f"ben {RANKS}", f"{when:%Y-%m-%dT%H:%M:%S}.000Z"
@@ -158,14 +158,14 @@ class Lies(boxes.BoxElectionTest):
         self.add_box()
         self.assertEqual(self.boxes_kept()[-1]["unopened"], 0)
 
-    def test_forged_records_take_the_place_of_no_true_one(self) -> None:
+    def test_forged_records_take_the_place_of_no_true_one(self):
         self.begun()
         forged = [one for name in NAMES[:3] for one in self.forged(name, MOST + 1)]
         self.keep(*forged, *(self.record(f"{name} {RANKS}", now()) for name in NAMES[:3]))
         said = self.add_box()
         self.assertEqual(self.standing(), dict.fromkeys(NAMES[:3], RANKS), said)
 
-    def test_the_most_of_a_link(self) -> None:
+    def test_the_most_of_a_link(self):
         """One more is no letter, and its elector is named. A host that takes more acknowledges
         them. What it repeats takes no place.
         """
@@ -182,7 +182,7 @@ class Lies(boxes.BoxElectionTest):
         self.assertEqual((kept["records"], kept["unopened"]), (MOST + MOST, 1))
         self.assertEqual(self.status()["lost"], ["ada"])
 
-    def test_records_that_are_ahead_of_the_clock_of_their_host(self) -> None:
+    def test_records_that_are_ahead_of_the_clock_of_their_host(self):
         """They would beat what their elector sends later. Of those of one second each has one of
         its own.
         """
@@ -209,7 +209,7 @@ class Lies(boxes.BoxElectionTest):
         self.assertEqual(self.standing(), standing)
         self.refused("close --early", "these letters arrived in time, and wait: ")
 
-    def test_who_is_to_vote_again(self) -> None:
+    def test_who_is_to_vote_again(self):
         """By whose proof came what nobody can open: named until a later ballot comes."""
         note = (
             "records can't be opened, or came above the 20 of a link, passed over, by the links of"
@@ -247,7 +247,7 @@ class Lies(boxes.BoxElectionTest):
         self.done("reopen --because 'A letter was found.'")
         self.done("close --early")
 
-    def test_letters_between_two_askings(self) -> None:
+    def test_letters_between_two_askings(self):
         """What came between two askings may have the time of either clock."""
         self.begun()
         for name, seconds, side in (("ada", 180, "behind"), ("ben", -180, "ahead of")):
@@ -286,7 +286,7 @@ class Clocks(unittest.TestCase):
     def becomes(self, *letters: ParsedLetter | bytes, **how: object) -> list[str]:
         return outcomes(*letters, box_key=KEY, **how)
 
-    def test_by_link_and_times(self) -> None:
+    def test_by_link_and_times(self):
         """It goes in by its link alone, and if its time, its device, and the askings agree."""
         [one] = judged(opened(), box_key=KEY)
         self.assertEqual((one.is_tied("ada"), one.is_tied("ben")), (True, False))
@@ -319,7 +319,7 @@ class Clocks(unittest.TestCase):
         for behind, wanted in ((0, "waits: before the call"), (180, IN)):
             self.assertEqual(self.becomes(opened(at(8, 59), behind), called=at(9)), [wanted])
 
-    def test_what_a_clock_could_take_across_the_end_waits_on_either_side(self) -> None:
+    def test_what_a_clock_could_take_across_the_end_waits_on_either_side(self):
         near = "waits: clock at the end"
         for minutes, behind, wanted in (
             (-1, 0, IN),
@@ -339,7 +339,7 @@ class Clocks(unittest.TestCase):
                 # what may be in time stops the close
                 self.assertEqual(found.arrived_in_time, "after" not in wanted)
 
-    def test_two_ballots_whose_order_it_could_turn(self) -> None:
+    def test_two_ballots_whose_order_it_could_turn(self):
         first = opened(behind=180)
         for later, wanted in (
             (
@@ -360,7 +360,7 @@ class Clocks(unittest.TestCase):
             entered = {"ada": [Ballot(at(10, 2), f"ada {RANKS}", True, -behind)]}
             self.assertEqual(self.becomes(letter("ada", f"ada {OTHER}"), ballots=entered), [wanted])
 
-    def test_which_ballots_are_surely_later(self) -> None:
+    def test_which_ballots_are_surely_later(self):
         """What the list of held says has one rule with its --enter: each ballot is looked at, not
         the last alone.
         """
@@ -378,7 +378,7 @@ class Clocks(unittest.TestCase):
             [case] = judged(given, ballots={"ada": there})
             self.assertEqual(case.voted_since, {"ada": is_sure}, there)
 
-    def test_what_its_device_dates_otherwise_waits(self) -> None:
+    def test_what_its_device_dates_otherwise_waits(self):
         """By more than ten minutes from the time of the host, which may be off by as much as is
         known.
         """

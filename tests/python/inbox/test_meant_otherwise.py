@@ -453,7 +453,7 @@ def judged(
 
 
 class Otherwise(unittest.TestCase):
-    def test_each_is_asked_about(self) -> None:
+    def test_each_is_asked_about(self):
         """None goes in, and none is among those that are entered by one answer, but the same ballot
         twice.
         """
@@ -467,7 +467,7 @@ class Otherwise(unittest.TestCase):
                 is_twice = len({*text.split("\n")}) == 1
                 self.assertTrue(not one.is_nothing_else or is_twice, text)
 
-    def test_the_ballots_alone_go_in(self) -> None:
+    def test_the_ballots_alone_go_in(self):
         """So it is the rest that keeps them out."""
         forms = (
             "{}",

@@ -65,7 +65,7 @@ def judged_by(data: Sequence[bytes], words: Words = WORDS_EN) -> list[LetterCase
 
 
 class OfLines(unittest.TestCase):
-    def test_each_word_in_each_language(self) -> None:
+    def test_each_word_in_each_language(self):
         for language in LANGUAGES:
             known = names(words=words_of(language, motion=True), language=language, real_names=REAL)
             for word, ranks in zip((*WORDS[language], *WORDS["en"]), RANKS * 2):
@@ -76,7 +76,7 @@ class OfLines(unittest.TestCase):
                         found = known.with_ranks(name + written)
                         self.assertEqual(found, wanted, (language, name, written))
 
-    def test_nothing_else(self) -> None:
+    def test_nothing_else(self):
         known = names(words=words_of("es", motion=True), roll=frozenset(ROLL), real_names=REAL)
         # of the last four each is the name of an elector, and so no ballot
         lines = "ada si|ada abstencion|ada ja|ada oui|yes ada|ada yes no!!|ada yes?|ada yes, please|ada 'yes'|ada,yes|ada yess|ada (yes)|ada yes 1,2|ada||1,2|ada no1|Kim No|kim no|kim-no|KIM NO."
@@ -106,7 +106,7 @@ class Taken(LettersTest):
     )
     new_words = ("--language", "de")
 
-    def test_a_file(self) -> None:
+    def test_a_file(self):
         self.write(
             "ballots.txt",
             "ada: JA\nBen nein!\ncleo Enthaltung.\nAda Lovelace: yes\ndan abstain\neve 2,1\nfay \u201cja\u201d\nKim No\n",
@@ -129,7 +129,7 @@ class Taken(LettersTest):
         self.write("again.txt", "ada 1,2\nBEN: No\n")
         self.tells("add again.txt", "There is nothing new")
 
-    def test_a_desk_from_a_pipe(self) -> None:
+    def test_a_desk_from_a_pipe(self):
         said = self.cast("ada ja", "ben: oui", "Kim No nein")
         self.assertIn("1 counted  ada: Yes: Wir kaufen a second boat", said)
         said = self.cast("max: yes", "Max: yes", "MAX no", "max-2 no.")
@@ -141,7 +141,7 @@ class Taken(LettersTest):
         lines = ["ada 1,2", "ben: oui", "kim-no 2,1", "max 1,2", "max-2 2,1"]
         self.assertEqual(self.lines(), lines)
 
-    def test_a_word_counts_as_a_rank_of_a_table(self) -> None:
+    def test_a_word_counts_as_a_rank_of_a_table(self):
         tables = ["Name;Vote\nada ja\n", "Name;Vote\nada 1,2\n"]
         # a head may have the words of the motion, and then it may be below ballots
         for head in ("Name Nein,Ja", "NAME | Nein | Ja | Enthaltung", "Name nein ja"):
@@ -160,7 +160,7 @@ class Taken(LettersTest):
         self.cast("Cleo ja", "dan enthaltung")
         self.assertEqual(self.lines(), ["ada 1,2", "ben 2,1", "cleo 1,2", "dan 1,1"])
 
-    def test_words_of_letters_are_typed(self) -> None:
+    def test_words_of_letters_are_typed(self):
         """Also beside a ballot, or those of two in a letter; receipts say the ballots in words."""
         said = self.add(
             letter("ada", "Ja"),
@@ -221,7 +221,7 @@ class Answering(LettersTest):
     )
     call_words = ("--to", "vote@club.example", "--at", "https://club.example/vote")
 
-    def test_our_letter_below_a_ballot_has_no_answer(self) -> None:
+    def test_our_letter_below_a_ballot_has_no_answer(self):
         """As programs quote that mark nothing; a word that its elector wrote above it is one."""
         self.told("letters call")
         head = "\n-----Original Message-----\nFrom: Vote\nSubject: Vote\n\n"
@@ -242,7 +242,7 @@ class AtDesk(TerminalTest):
     poll = MOTION + "motion = true\n"
     members = members_of(NAMES) + "Kim No,kim@club.example\nGrace Hopper,\n"
 
-    def test_words_for_parts_of_names_too(self) -> None:
+    def test_words_for_parts_of_names_too(self):
         desk = self.at_terminal()
         completed = "`hopp` was completed to `grace-hopper`\ngrace-hopper: Abstain\n"
         replaced = "\nada has a ballot, which will be replaced: Yes: We buy a second boat"
@@ -264,7 +264,7 @@ QUOTED = "\n\nOn Mon, Nov 23, 2026 at 10:00 AM Vote wrote:\n> "
 
 
 class InLetters(unittest.TestCase):
-    def test_a_table(self) -> None:
+    def test_a_table(self):
         """What becomes of a letter, and whether its ballot can be entered, or has to be typed since a
         word looks like an answer.
         """
@@ -336,7 +336,7 @@ ada 1,2⏎⏎Kim No
                     found.removesuffix(", in")[: len(becomes)], becomes, one.read.body.lines
                 )
 
-    def test_random_letters(self) -> None:
+    def test_random_letters(self):
         """A word makes no letter go in that does not without a motion, and none goes in with a line
         that is one; of those that wait for it alone the words are shown.
         """

@@ -88,7 +88,7 @@ def dense(ballot: str) -> str:
 
 
 class People(unittest.TestCase):
-    def test_each_is_read_as_it_is_meant_or_typed(self) -> None:
+    def test_each_is_read_as_it_is_meant_or_typed(self):
         """None goes in otherwise than it is meant, and of the answers none is proposed so; of the
         others whoever is asked sees the whole letter.
         """

@@ -33,7 +33,7 @@ def proposed(data: bytes, **other: object) -> list[str]:
 class Loose(unittest.TestCase):
     """A person looks at what waits, so more is read than goes in."""
 
-    def test_ranks_as_people_write_them(self) -> None:
+    def test_ranks_as_people_write_them(self):
         for text in (
             "1 2 4 3",
             "ada 1 2 4 3",
@@ -52,7 +52,7 @@ class Loose(unittest.TestCase):
                 self.assertEqual([one.as_entered for one in case.to_enter], [BALLOT])
                 self.assertEqual((case.outcome.value, case.is_nothing_else), ("waits", False))
 
-    def test_what_is_none(self) -> None:
+    def test_what_is_none(self):
         for text, found in (
             ("1 2 4", []),
             ("on 1.2.43", []),
@@ -66,12 +66,12 @@ class Loose(unittest.TestCase):
                 self.assertEqual([one.as_entered for one in case.proposals], found)
                 self.assertEqual(case.to_enter, ())
 
-    def test_without_a_name_it_is_of_who_sent_it(self) -> None:
+    def test_without_a_name_it_is_of_who_sent_it(self):
         for how in ({"sender": "x@x.example"}, {"subject": f"my vote [{MARK}]"}):
             self.assertEqual(proposed(letter("ada", RANKS, **how)), [])
         self.assertEqual(proposed(letter("ada", "ben 1 2 4 3")), [f"ben {RANKS}"])
 
-    def test_words_and_labels_of_several_questions(self) -> None:
+    def test_words_and_labels_of_several_questions(self):
         several = {"labels": ("A", "B"), "motions": ("A",), "words": {"yes": "1,2"}}
         for text, loose in (
             ("A yes B 1 2 4 3", "A 1,2 B 1,2,4,3"),
@@ -80,7 +80,7 @@ class Loose(unittest.TestCase):
         ):
             self.assertEqual(names(**several).loose(text), loose)
 
-    def test_a_couple_by_the_mark_of_one(self) -> None:
+    def test_a_couple_by_the_mark_of_one(self):
         both = f"{BALLOT}\nben {RANKS}\n"
         for how, text, number in (
             ({}, both, 2),
@@ -91,7 +91,7 @@ class Loose(unittest.TestCase):
             [case] = judged(letter("ada", text, **how), addresses=COUPLE)
             self.assertEqual(len(case.to_enter), number, (how, text))
 
-    def test_what_may_be_quoted_is_marked(self) -> None:
+    def test_what_may_be_quoted_is_marked(self):
         for text, is_marked in (
             (f"Hello\n{BALLOT}\nno more", False),
             (f"> x\n\n{BALLOT}", True),
@@ -102,7 +102,7 @@ class Loose(unittest.TestCase):
             [case] = judged(letter("ada", text))
             self.assertEqual([case.may_be_quoted(one) for one in case.proposals], [is_marked], text)
 
-    def test_which_say_nothing_else(self) -> None:
+    def test_which_say_nothing_else(self):
         subject = {"subject": "my vote"}
         for data, is_alone in (
             (letter("ada", BALLOT, sender="x@x.example", subject=f"x [{MARK}]"), True),
@@ -120,7 +120,7 @@ class Loose(unittest.TestCase):
 class GoesIn(unittest.TestCase):
     """What goes in by itself has become less, but for a blank of French programs."""
 
-    def test_heads_of_quotations(self) -> None:
+    def test_heads_of_quotations(self):
         for head, is_in in (
             ("Le 27/11/2026 à 09:05, vote@club.example a écrit\u00a0:", True),
             ("Le 27/11/2026 à 09:05, Vote a écrit\u202f:", True),
@@ -134,11 +134,11 @@ class GoesIn(unittest.TestCase):
                 found = outcomes(letter("ada", f"{BALLOT}\n\n{head}\n> x"))
                 self.assertEqual(found == [IN], is_in, found)
 
-    def test_what_was_filled_in_below(self) -> None:
+    def test_what_was_filled_in_below(self):
         filled = f"{BALLOT}\n\n{WROTE}\n>  ada _2,_1,_3,_4"
         self.assertEqual(outcomes(letter("ada", filled)), ["waits: answer below"])
 
-    def test_a_card_beside_it_is_looked_at(self) -> None:
+    def test_a_card_beside_it_is_looked_at(self):
         data = letter("ada", CARD.format(BALLOT), kind="multipart/mixed; boundary=b")
         [case] = judged(data)
         self.assertEqual(
@@ -149,7 +149,7 @@ class GoesIn(unittest.TestCase):
 
 
 class Shown(LettersTest):
-    def test_a_letter_whole_but_for_ours(self) -> None:
+    def test_a_letter_whole_but_for_ours(self):
         """Nothing of HTML is hidden; of a letter of Outlook that quotes ours, without marks, ten rows are left."""
         call = next((self.folder / "letters" / "call").rglob("ada.eml"), None)
         if call is None:
@@ -171,7 +171,7 @@ class Shown(LettersTest):
         for part in ("ben 2,1,3,4", "> x", "not ~~mine~~", "line "):
             self.assertIn(part, shown)
 
-    def test_each_is_asked_about_but_those_that_say_nothing_else(self) -> None:
+    def test_each_is_asked_about_but_those_that_say_nothing_else(self):
         plain = [
             letter(name, f"{name} {RANKS}", sender=f"{name}@x.example", subject=f"x [{MARK}]")
             for name in ("ada", "ben")
@@ -198,7 +198,7 @@ class Shown(LettersTest):
 
 
 class Damaged(LettersTest):
-    def test_a_mailbox_with_other_line_ends(self) -> None:
+    def test_a_mailbox_with_other_line_ends(self):
         data = mailbox(letter("ada", BALLOT))
         for end in (b"\r", b"\r\r\n"):
             self.write("inbox.mbox", data.replace(b"\n", end))
@@ -208,7 +208,7 @@ class Damaged(LettersTest):
 class Secret(LettersTest):
     poll = f"{elections.POLL}secret = true\n"
 
-    def test_ranks_stand_in_a_letter_that_waits_alone(self) -> None:
+    def test_ranks_stand_in_a_letter_that_waits_alone(self):
         self.add(letter("ada", f"{BALLOT}\nSee you!"))
         self.assertNotIn(RANKS, self.told("held"))
         self.assertIn(RANKS, self.told("held", 1))

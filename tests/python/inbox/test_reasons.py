@@ -29,7 +29,7 @@ def with_values(reason: Reason) -> ReasonWithValues:
 
 
 class Sentences(unittest.TestCase):
-    def test_each_reason_has_both(self) -> None:
+    def test_each_reason_has_both(self):
         """What electors read has no value and no ballot."""
         self.assertEqual(
             len(Reason.__members__),
@@ -48,7 +48,7 @@ class Sentences(unittest.TestCase):
             # what an elector sends back is no answer
             self.assertIsNone(answer_pattern(2, "ABC", frozenset(("yes", "no"))).search(text), text)
 
-    def test_what_electors_read_of_their_own_key(self) -> None:
+    def test_what_electors_read_of_their_own_key(self):
         """One that has expired or was revoked may be the key that the list of members has."""
         said = "The reason: the key with which it is signed has expired, or was revoked."
         for reason in (Reason.EXPIRED_KEY, Reason.REVOKED_KEY):
@@ -56,13 +56,13 @@ class Sentences(unittest.TestCase):
         said = "another key than the list of members has"
         self.assertIn(said, for_elector(with_values(Reason.OTHER_KEY)))
 
-    def test_how_values_are_shown(self) -> None:
+    def test_how_values_are_shown(self):
         sender = "a\x1b[2J\u202e@x"
         reason = Reason.OTHER_SENDER(sender=sender, listed="b@x", elector="ada")
         said = "it came from a\\u001B[2J\\u202E@x, but the list of members has b@x for ada"
         self.assertEqual(for_secretary(reason), said)
 
-    def test_which_times_are_told(self) -> None:
+    def test_which_times_are_told(self):
         """Of each reason that has one."""
         desk, late = {"ada": [Ballot(at(11), OTHER)]}, "Mon, 23 Nov 2026 11:00:00 +0000"
         closed = {"first_close": at(7)}
@@ -98,7 +98,7 @@ class Sentences(unittest.TestCase):
             [one] = judged(dataclasses.replace(data, signature=sign), keys={"ada": "A" * 40})
             self.assertEqual(one.reason and for_secretary(one.reason), f"signed at {said}")
 
-    def test_each_becomes_of_some_letter(self) -> None:
+    def test_each_becomes_of_some_letter(self):
         test_signatures.SignedTable.setUpClass()
         waiting = [*test_signatures.SignedTable().rows(), *(row.becomes for row in TABLE)]
         found = {one.partition(": ")[2] for one in waiting} | {reason for reason, _ in OTHERS}

@@ -17,7 +17,7 @@ class Reopened(LettersTest):
     def reopen(self) -> str:
         return self.told("reopen", *IN_TIME)
 
-    def beside_a_newer_one(self) -> None:
+    def beside_a_newer_one(self):
         """The vote is open again, and Ada's late line, in envelope 1, is older than her ballot in
         time, in envelope 2.
         """
@@ -29,7 +29,7 @@ class Reopened(LettersTest):
     def closing_letter(self) -> str:
         return " ".join(self.read("letters/closed.txt").decode().split())
 
-    def test_a_late_line_is_entered_again_once(self) -> None:
+    def test_a_late_line_is_entered_again_once(self):
         """It stays late; so does one that is refused, which replaces none. What was struck came.
         Only ballots are listed, while they are not in time.
         """
@@ -51,13 +51,13 @@ class Reopened(LettersTest):
         self.assertNotIn("replaced_in_time", self.last("close"))
         self.assertIn(f"first close (1): 1 `{BALLOT}`\n", self.reopen())
 
-    def test_many_late_lines(self) -> None:
+    def test_many_late_lines(self):
         self.told("close")
         self.add_lines(*(f"ada 1,2,{one // 5 + 1},{one % 5 + 1}" for one in range(25)))
         listed = r"first close \(25\): 1 `ada 1,2,1,1`, .*, 20 `ada 1,2,4,5` and 5 more\n"
         self.assertRegex(self.reopen(), listed)
 
-    def test_a_late_line_replaces_a_newer_ballot_only_by_force(self) -> None:
+    def test_a_late_line_replaces_a_newer_ballot_only_by_force(self):
         """Nothing is entered without it. What is forced is told at the close and on the page."""
         self.beside_a_newer_one()
         fault = f"standard input:2: {NEWER}; nothing was added: take it out, or add it anyway with --force"
@@ -80,7 +80,7 @@ class Reopened(LettersTest):
         self.assertEqual(self.read("result/index.html").decode().count(said), 1)
         self.assertIn(said, " ".join(self.read("letters/result.txt").decode().split()))
 
-    def test_at_a_terminal_each_is_asked_about(self) -> None:
+    def test_at_a_terminal_each_is_asked_about(self):
         self.beside_a_newer_one()
         self.told("close")
         self.add_lines(f"ben {RANKS}")
@@ -98,7 +98,7 @@ class Reopened(LettersTest):
         lines = [OTHER, f"ben {OTHER_RANKS}", f"ben {RANKS}", f"cleo {RANKS}"]
         self.assertEqual(self.lines(), lines)
 
-    def test_at_a_desk(self) -> None:
+    def test_at_a_desk(self):
         """A pipe goes on without such a line."""
         self.beside_a_newer_one()
         said = self.told("desk", *YES, given=f"{BALLOT}\nben {RANKS}\n")
@@ -114,7 +114,7 @@ class Reopened(LettersTest):
         terminal.type("q\n")
         terminal.end()
 
-    def test_a_newer_ballot_that_comes_meanwhile(self) -> None:
+    def test_a_newer_ballot_that_comes_meanwhile(self):
         """No late line goes in over one that was not there when it was planned."""
         self.told("close")
         self.add_lines(BALLOT)
@@ -127,7 +127,7 @@ class Reopened(LettersTest):
             self.assertEqual(self.lines(), [OTHER])
             self.told("undo --yes")
 
-    def test_a_look_says_what_add_would_ask(self) -> None:
+    def test_a_look_says_what_add_would_ask(self):
         self.told("close")
         self.reopen()
         self.write("more", f"{BALLOT}\n")
@@ -140,7 +140,7 @@ class Reopened(LettersTest):
             said = self.told("add", "--look", *words, "more")
             self.assertEqual((note in said, f"1 {became}  ada: " in said), (is_noted, True), said)
 
-    def test_what_follows_before_the_announced_end(self) -> None:
+    def test_what_follows_before_the_announced_end(self):
         """It closes early again, which the program does not do unasked."""
         self.told("call --until '2026-11-30 18:00' --zone UTC")
         self.done("close --early")
@@ -158,7 +158,7 @@ class Reopened(LettersTest):
         self.assertIn(said, self.closing_letter())
         self.assertIn(f"{following}\n", self.reopen())
 
-    def test_it_asks_about_the_reason(self) -> None:
+    def test_it_asks_about_the_reason(self):
         self.told("close")
         terminal = Terminal(self, "reopen", *IN_TIME)
         asked = "because: it was in time? Everybody will read this reason."
@@ -167,7 +167,7 @@ class Reopened(LettersTest):
         shown, ended = terminal.end()
         self.assertEqual((ended, "you did not say yes" in shown), (9, True))
 
-    def test_the_times_of_two_closes(self) -> None:
+    def test_the_times_of_two_closes(self):
         """What had to come before a close, had to before the first one; the vote is closed since
         the last one, of which each letter tells until the next one.
         """
@@ -216,7 +216,7 @@ class Reopened(LettersTest):
     def wrote(self, name: str, time: str) -> bytes:
         return letter(name, f"{name} {RANKS}", time=f"Wed, 25 Nov 2026 {time}:00 +0000")
 
-    def test_a_letter_of_after_the_first_close(self) -> None:
+    def test_a_letter_of_after_the_first_close(self):
         """Its late ballot is not one of those that may have come in time, as one of before it may,
         and a line of a file.
         """
@@ -231,7 +231,7 @@ class Reopened(LettersTest):
         said = "letter 2: its ballot of cleo was entered, and is late; nothing was changed: there is nothing to do"
         self.assert_refused(("held", 2, "--enter"), 9, said)
 
-    def test_a_letter_whose_late_copy_was_entered(self) -> None:
+    def test_a_letter_whose_late_copy_was_entered(self):
         """The first mailbox is added after the second one, which had it by forwarding after the
         end: it stops the count, and counts.
         """
@@ -246,7 +246,7 @@ class Reopened(LettersTest):
         self.told("held 2 --enter --force not-tied --force voted-since")
         self.assertEqual((self.lines(), self.late_lines()), ([BALLOT], [BALLOT]))
 
-    def test_a_call_that_was_closed_and_taken_back(self) -> None:
+    def test_a_call_that_was_closed_and_taken_back(self):
         """A close stays; where an earlier version took the call back, the next one is open until
         its own close.
         """

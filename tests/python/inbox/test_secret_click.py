@@ -24,7 +24,7 @@ INVITING = (
 class SecretCall(elections.ElectionTest):
     call_words = None
 
-    def test_what_stands_against_it(self) -> None:
+    def test_what_stands_against_it(self):
         slips = "--slips: only in a secret vote, with --box"
         self.refused(f"call --box {HTTPS} --slips no", slips, status=2)
         self.write("poll.toml", SECRET)
@@ -51,7 +51,7 @@ class SecretCall(elections.ElectionTest):
         ):
             self.assertIn(part, ended.faults)
 
-    def test_whether_slips_are_handed_out_is_asked_and_kept(self) -> None:
+    def test_whether_slips_are_handed_out_is_asked_and_kept(self):
         self.write("poll.toml", SECRET)
         self.done("codes")
         fault = "--slips: nobody says whether slips with codes will be handed out"
@@ -81,7 +81,7 @@ class SecretCall(elections.ElectionTest):
 class SecretClicks(boxes.BoxElectionTest):
     poll = SECRET
 
-    def setUp(self) -> None:
+    def setUp(self):
         super().setUp()
         self.done("codes")
 
@@ -92,11 +92,11 @@ class SecretClicks(boxes.BoxElectionTest):
         rows = self.rows("SELECT name, code FROM elector_now")
         return {str(name): str(code) for name, code in rows}
 
-    def demand_without(self, text: str, *parts: str) -> None:
+    def demand_without(self, text: str, *parts: str):
         for part in parts:
             self.assertNotIn(part, text)
 
-    def test_page_and_letters(self) -> None:
+    def test_page_and_letters(self):
         links = self.begun()
         page, codes = self.read("call/index.html").decode(), self.codes()
         nodes = ('id="Copy"', 'id="Letter"', "data-name", 'id="Name"', 'id="Not-you"')
@@ -128,7 +128,7 @@ class SecretClicks(boxes.BoxElectionTest):
             for secret in (*NAMES[1:3], *aliases, *codes.values()):
                 self.assertNotRegex((self.web / name).read_text(), rf"\b{secret}\b")
 
-    def test_codes_beside_links(self) -> None:
+    def test_codes_beside_links(self):
         self.begun()
         words = "letters call --codes"
         fault = "Who reads a letter with its code can vote in that name, and finds the alias"
@@ -146,7 +146,7 @@ class SecretClicks(boxes.BoxElectionTest):
             self.codes()["ada"], "".join(boxes.text_of(one.read_bytes()) for one in letters)
         )
 
-    def test_nothing_that_people_wrote_is_told_at_a_pipe(self) -> None:
+    def test_nothing_that_people_wrote_is_told_at_a_pipe(self):
         self.begun(ida=RANKS, hal="1,2,3,9")
         own = f"[{elections.ANY_MARK}-{{}}]"
         own_of = {name: own.format(elections.any_own(name)) for name in NAMES}
@@ -204,7 +204,7 @@ class SecretClicks(boxes.BoxElectionTest):
         for part in ("I take the lake, then the hall", "subject: The lake first"):
             self.assertIn(part, shown)
 
-    def test_whose_ballots_came_is_told_and_nothing_else(self) -> None:
+    def test_whose_ballots_came_is_told_and_nothing_else(self):
         """Also at a terminal; and not in the order of the records, which the web host knows."""
         self.begun(ida=RANKS, ada=OTHER)
         said = " ".join(Terminal(self, "add", "--box", "--yes").end()[0].split())
@@ -212,7 +212,7 @@ class SecretClicks(boxes.BoxElectionTest):
         self.assertIn(told, said)
         self.demand_without(said, "lake", RANKS)
 
-    def test_a_take_back_needs_a_fresh_asking(self) -> None:
+    def test_a_take_back_needs_a_fresh_asking(self):
         """And before it, an answer by mail goes in, to which nobody is invited: nothing was taken
         from who does it.
         """

@@ -72,11 +72,11 @@ def entered(*letters: LetterCase) -> dict[str, object]:
 
 
 class BesideEachOther(unittest.TestCase):
-    def become(self, letters: Sequence[bytes | ParsedLetter], *wanted: str, **how: object) -> None:
+    def become(self, letters: Sequence[bytes | ParsedLetter], *wanted: str, **how: object):
         """What becomes of letters, in the order of their times."""
         self.assertEqual(outcomes(*letters, **how), [*wanted], how)
 
-    def test_as_they_arrived(self) -> None:
+    def test_as_they_arrived(self):
         """Those without a time come last."""
         elsewhere = letter("ben", f"ben {RANKS}", time="Mon, 23 Nov 2026 12:30:00 +0100")
         self.assertEqual(lines_in(other(12), elsewhere, first()), [BALLOT, f"ben {RANKS}", OTHER])
@@ -84,7 +84,7 @@ class BesideEachOther(unittest.TestCase):
         found = judged(*without, first(number=2))
         self.assertEqual([one.read.where for one in found], ["letter 3", "letter 1", "letter 2"])
 
-    def test_two_of_one_second_that_differ_both_wait(self) -> None:
+    def test_two_of_one_second_that_differ_both_wait(self):
         others = [bens(10), first(9, number=3)]
         both = [first(), other(10)]
         wanted = [f"in: {BALLOT}", f"in: ben {RANKS}", "waits: same time", "waits: same time"]
@@ -96,7 +96,7 @@ class BesideEachOther(unittest.TestCase):
         self.assertEqual(lines_in(first(), same), [BALLOT, BALLOT])
         self.become([first(), other(10, sender="x@y.example")], IN, "waits: other sender")
 
-    def test_what_makes_another_letter_and_what_none(self) -> None:
+    def test_what_makes_another_letter_and_what_none(self):
         unnumbered = first().replace(b"Message-ID", b"X-ID")
         texts = (letter("ada", f"Hi\n{BALLOT}\n"), first(sender="x@y.example"))
         for data in (first(number=2), *texts, unnumbered):
@@ -123,7 +123,7 @@ class BesideEachOther(unittest.TestCase):
         both = [data.replace(b"Received:", b"X:") for data in (signed, quoted, signed + b"\n")]
         self.become(both, "waits: no arrival", "waits: no arrival", "copy")
 
-    def test_a_later_copy(self) -> None:
+    def test_a_later_copy(self):
         # it waits if another ballot came between
         between, again = other(11), first(12)
         self.become([again, between, first()], IN, f"in: {OTHER}", "waits: came before")
@@ -151,7 +151,7 @@ class BesideEachOther(unittest.TestCase):
         letters = [found[0].read, again, new]
         self.become(letters, "entered", "copy", f"in: {OTHER}", **entered(*found))
 
-    def test_an_earlier_copy_of_one_that_went_in(self) -> None:
+    def test_an_earlier_copy_of_one_that_went_in(self):
         """A late copy was read first. If another ballot lies between the two, neither mailbox
         decides which is the last: the secretary does.
         """
@@ -165,7 +165,7 @@ class BesideEachOther(unittest.TestCase):
         said = "it is a copy, of 2026-11-23 10:00:00 UTC, of a letter of 2026-11-23 12:00:00 UTC that was read before, and ada has a ballot of 2026-11-23 11:00:00 UTC, between the two"
         self.assertEqual(copy.reason and for_secretary(copy.reason), said)
 
-    def test_a_letter_with_a_later_one(self) -> None:
+    def test_a_letter_with_a_later_one(self):
         """It can count in no case, unless the later one is struck, or is late; a line has only the
         time at which somebody entered it.
         """
@@ -189,7 +189,7 @@ class BesideEachOther(unittest.TestCase):
         # what breaks a rule waits, though a later one went in
         self.become([letter("ada", "hello")], "waits: no ballot", ballots={"ada": [by_letter]})
 
-    def test_a_later_copy_of_one_that_was_entered_or_set_aside_by_hand(self) -> None:
+    def test_a_later_copy_of_one_that_was_entered_or_set_aside_by_hand(self):
         """Without a Message-ID an elector's third letter may be the first one once more, and is
         their last word.
         """
@@ -206,7 +206,7 @@ class BesideEachOther(unittest.TestCase):
                 how = {"decisions": {kept.digest: decision}, "ballots": ballots}
                 self.assertEqual(outcomes(kept, again, **how)[1:], [becomes], text)
 
-    def test_a_letter_that_waits_hides_no_other(self) -> None:
+    def test_a_letter_that_waits_hides_no_other(self):
         """Copies that somebody else made, which came before the genuine letter or after it."""
         html = f"--b\n\n{BALLOT}\n--b\nContent-Type: text/html\n\n<p>{OTHER}</p>\n--b--\n"
         lines = (b"no field\n", b"From: x@y.example\n", b"Subject: [0123456789abcdef]\n")
@@ -226,7 +226,7 @@ class BesideEachOther(unittest.TestCase):
                 found = lines_in(waiting, first(), decisions=decisions)
                 self.assertEqual(found, [BALLOT], (copy, decision))
 
-    def test_copies_that_wait_for_one_reason_are_told_once(self) -> None:
+    def test_copies_that_wait_for_one_reason_are_told_once(self):
         data = letter("ada", "when?", time=hour(10))
         self.become([data, above(data, b"X-Status: R\n")], "waits: no ballot", "copy")
         # for another reason it is told
@@ -247,7 +247,7 @@ class BesideEachOther(unittest.TestCase):
         self.become([late, first()], IN, "copy", end=end)
         self.become([judged(late, end=end)[0].read, first()], IN, "copy", end=end)
 
-    def test_what_was_entered_as_late_hides_no_copy_that_arrived_in_time(self) -> None:
+    def test_what_was_entered_as_late_hides_no_copy_that_arrived_in_time(self):
         """A second mailbox had it later. Another late copy is one of it."""
         late = parsed(first(13))
         again, in_time = (above(first(of_day), b"X-Status: R\n") for of_day in (14, 10))
@@ -260,7 +260,7 @@ class BesideEachOther(unittest.TestCase):
             self.become([late, again, first(), in_time], IN, "copy", becomes, "copy", **how)
             self.become([late, above(first(15), AUTOMATIC)], becomes, "copy", **how)
 
-    def test_what_an_act_decided_holds_for_copies(self) -> None:
+    def test_what_an_act_decided_holds_for_copies(self):
         kept = parsed(first())
         for decision, becomes in (
             (queries.ENTERED, "entered"),
@@ -298,7 +298,7 @@ class World:
     what the book then has.
     """
 
-    def __init__(self, chance: random.Random) -> None:
+    def __init__(self, chance: random.Random):
         self.chance = chance
         self.ranks = [chance.choice(("1,2,4,3", "2,1,4,3", "1,1,4,3")) for _ in range(LETTERS)]
         several = [(number, chance.randint(1, 2)) for number in range(chance.randint(1, LETTERS))]
@@ -386,7 +386,7 @@ class World:
 
 
 class Orders(unittest.TestCase):
-    def test_the_order_of_mailboxes_decides_nothing(self) -> None:
+    def test_the_order_of_mailboxes_decides_nothing(self):
         """However they are read, the last word of the elector counts, or a letter waits, which
         stops the close.
         """

@@ -47,16 +47,16 @@ def outcome_of(found: list[RawLetter]) -> list[str]:
 
 
 class Files(unittest.TestCase):
-    def assert_becomes(self, data: bytes, *wanted: str) -> None:
+    def assert_becomes(self, data: bytes, *wanted: str):
         self.assertEqual(outcome_of(letters_of_file("box", data)), list(wanted), data)
 
-    def assert_parted_off(self, data: bytes, *wanted: bool) -> None:
+    def assert_parted_off(self, data: bytes, *wanted: bool):
         """Which letters of a file may be text of the letter above."""
         self.assertEqual(
             [raw.is_parted_off for raw in read_in(letters_of_file("box", data))], list(wanted), data
         )
 
-    def test_a_mailbox_and_one_message(self) -> None:
+    def test_a_mailbox_and_one_message(self):
         for line in (
             LINE,
             b"From - Mon Nov 23 10:00:00 2026\n",
@@ -82,7 +82,7 @@ class Files(unittest.TestCase):
         # waits
         self.assert_becomes(mailbox(ADA, CODED).removeprefix(LINE), PARTED)
 
-    def test_lines_without_a_date_hide_no_letter(self) -> None:
+    def test_lines_without_a_date_hide_no_letter(self):
         """The letter above waits, and says to look at the file: what is below its parts nobody
         would see.
         """
@@ -102,7 +102,7 @@ class Files(unittest.TestCase):
             self.assert_becomes(head + ADA + b"\n" + head + CODED, PARTED)
             self.assert_becomes(LINE + ADA + b"\n" + head + CODED, PARTED)
 
-    def test_mailboxes_of_thunderbird_and_lotus_notes_and_lines_that_part_nothing(self) -> None:
+    def test_mailboxes_of_thunderbird_and_lotus_notes_and_lines_that_part_nothing(self):
         """Today it writes lines without sender and date; older letters in it have lines with a
         date.
         """
@@ -129,7 +129,7 @@ class Files(unittest.TestCase):
         text = f"ada {RANKS}\n\nFrom Monday on\n\nFrom Monday on see\nhttps://x.example\n\n>From x Mon Nov 23 10:00:00 2026\n\nfrom x Mon Nov 23 10:00:00 2026\n\nFrom 10:00 on\n"
         self.assertEqual(len(read_in(letters_of_file("box", mailbox(letter("ada", text), BEN)))), 2)
 
-    def test_letters_that_somebody_put_together(self) -> None:
+    def test_letters_that_somebody_put_together(self):
         """As `cat *.eml` does: of the second nobody would see anything."""
         base64 = "Content-Transfer-Encoding: base64\n"
         html = letter("ada", f"<p>ada {RANKS}</p><br>\n", kind="text/html")
@@ -141,7 +141,7 @@ class Files(unittest.TestCase):
         attached = PARTS.replace(b"--b--\n", b"--b\nContent-Type: message/rfc822\n\n")
         self.assert_becomes(attached + letter("ben", "hello\n") + b"--b--\n", PARTED)
 
-    def test_what_may_be_text_of_the_letter_above(self) -> None:
+    def test_what_may_be_text_of_the_letter_above(self):
         carrier, below = letter("mallory", "hello\n"), b"\n" + LINE + BEN
         length = b"Content-Length: %d\n" % (len(below) + 7)
         begun = letter("x", "--b\n\nhi\n", kind="multipart/mixed; boundary=b")
@@ -162,7 +162,7 @@ class Files(unittest.TestCase):
         box = LINE + head + b"\n\n" + body + b"\n" + LINE + ADA
         self.assert_parted_off(box, False, True, True, False)
 
-    def test_a_length_that_ends_elsewhere_parts_nothing_off(self) -> None:
+    def test_a_length_that_ends_elsewhere_parts_nothing_off(self):
         """Any sender can write one. Else a stranger's letter would have all letters wait that come
         after it.
         """
@@ -194,7 +194,7 @@ class Files(unittest.TestCase):
         for above in (PARTS, letter("x", "hi\n", head="Subject: boundary=b\n")):
             self.assert_parted_off(LINE + above + b"\n" + LINE + BEN, False, False)
 
-    def test_what_is_no_letter_is_named(self) -> None:
+    def test_what_is_no_letter_is_named(self):
         names = "__properties_version1.0".encode("utf-16-le")
         for data, why in {
             b"\xd0\xcf\x11\xe0rest" + names: NotRead.OUTLOOK_LETTER,
@@ -223,7 +223,7 @@ class Files(unittest.TestCase):
         ):
             self.assertFalse(are_letters(data), data)
 
-    def test_many_lines_take_a_time_that_grows_with_their_number(self) -> None:
+    def test_many_lines_take_a_time_that_grows_with_their_number(self):
         """As processor time: a time that grows with the square of the length would be minutes."""
         began = time.process_time()
         words = b"From Mon Mon Mon " * 50 * 5_000, (b"From " + b"Mon " * 200 + b"\n") * 10_000
@@ -231,7 +231,7 @@ class Files(unittest.TestCase):
             letters_of_file("box", LINE + b"From: x\n" + data)
         self.assertLess(time.process_time() - began, 60)
 
-    def test_heads_as_they_are_shown(self) -> None:
+    def test_heads_as_they_are_shown(self):
         head = "Subject: =?utf-8?b?R3LDvMOfZQ==?= =?x-none?q?x?=\nSubject: \udcff\n"
         found = parsed(
             letter("ada", "x", sender="=?utf-8?q?a=0ABcc:?= <ada@club.example>", head=head)
@@ -293,7 +293,7 @@ class Conservation(unittest.TestCase):
             self.assertIn(below, (b"", b"\n", b"\r\n"))
         return [one for _, one, _ in sections]
 
-    def test_the_sections_of_a_file_are_the_file(self) -> None:
+    def test_the_sections_of_a_file_are_the_file(self):
         chance = random.Random(3)
         becomes = collections.Counter[str]()
         for _ in range(800):
@@ -314,12 +314,12 @@ class Conservation(unittest.TestCase):
 
 
 class Folders(unittest.TestCase):
-    def setUp(self) -> None:
+    def setUp(self):
         self.folder = pathlib.Path(
             self.enterContext(tempfile.TemporaryDirectory(prefix="debvote-letters-"))
         )
 
-    def write(self, name: str, data: bytes) -> None:
+    def write(self, name: str, data: bytes):
         file = self.folder / name
         file.parent.mkdir(parents=True, exist_ok=True)
         file.write_bytes(data)
@@ -330,7 +330,7 @@ class Folders(unittest.TestCase):
         why = {where.removeprefix(place): why for where, why in passed_over_in(found)}
         return [raw.where.removeprefix(place) for raw in read_in(found)], why
 
-    def test_a_folder_of_messages(self) -> None:
+    def test_a_folder_of_messages(self):
         self.assertEqual(self.found(), ([], {}))
         for name, data in {
             "b.eml": ADA,
@@ -354,7 +354,7 @@ class Folders(unittest.TestCase):
         *_, inner, one = read_in(letters_of_folder(self.folder))
         self.assertEqual((inner.is_parted_off, one.is_parted_off, one.data), (True, False, ADA))
 
-    def test_a_maildir(self) -> None:
+    def test_a_maildir(self):
         for place in (
             "cur/2.host:2,S",
             "new/1.host",

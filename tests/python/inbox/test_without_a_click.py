@@ -39,7 +39,7 @@ class Forty(LettersTest):
     poll = f"{elections.POLL}secret = true\n"
     members = re.sub("m(39|40)@club.example", "", elections.members_of(MEMBERS))
 
-    def test_each_ballot_is_as_meant(self) -> None:
+    def test_each_ballot_is_as_meant(self):
         ways = [row for row in LETTERS for _ in range(row[0])]
         by_way = [list[int]() for _ in range(PAPER + 1)]
         letters, lines = [], [f"{name} {ranks}" for name, ranks in RANKS.items()]
@@ -93,7 +93,7 @@ class ByThePage(LettersTest):
 
     ranks, body, entered = "2143", "ada 2,1,4,3\r\n", "ada 2,1,4,3"
 
-    def test_its_letter_goes_in(self) -> None:
+    def test_its_letter_goes_in(self):
         [(own,)] = self.book.rows("SELECT mark FROM elector_now WHERE name = 'ada'")
         with Window(360, 800) as window:
             window.open(self.folder / "call" / "index.html", f"#ada/{own}")

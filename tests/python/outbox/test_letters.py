@@ -39,7 +39,7 @@ OTHER_AT = "https://x.example/r/"
 
 
 class Call(OutTest):
-    def test_it_has_title_end_form_the_own_line_and_the_mark(self) -> None:
+    def test_it_has_title_end_form_the_own_line_and_the_mark(self):
         self.assertIn("Wrote 9 letters: letters/call/", self.done("letters", "call").output)
         found = self.written("call")
         owns = dict(self.book.rows("SELECT name, mark FROM elector_now WHERE mark <> ''"))
@@ -82,7 +82,7 @@ class Call(OutTest):
         self.change_roll("ada@club", "ada@new")
         self.assertIn("Wrote 9 letters, 1 of them new: ", self.done("letters", "call").output)
 
-    def test_again_it_makes_the_same_files_and_no_act_and_an_answer_goes_in(self) -> None:
+    def test_again_it_makes_the_same_files_and_no_act_and_an_answer_goes_in(self):
         found = self.written("call")
         before = {file: file.read_bytes() for file in self.files("call")}
         last = self.last_act()
@@ -101,7 +101,7 @@ class Call(OutTest):
         self.assertEqual(self.exported()[0], f"ada {RANKS}\n")
         self.assertIn("its subject lacks the own mark of ben", self.told("held"))
 
-    def test_after_an_extension_those_who_have_the_call_get_its_letter(self) -> None:
+    def test_after_an_extension_those_who_have_the_call_get_its_letter(self):
         self.written("call")
         # whose address was wrong has no call yet
         self.change_roll("ada@club", "ada@new")
@@ -134,7 +134,7 @@ class Call(OutTest):
                 self.assert_refused(("letters", kind), 9, "the vote is over")
         self.assertEqual((self.rows("call"), self.rows("reminders")), (before, []))
 
-    def test_a_call_that_was_taken_back_is_none(self) -> None:
+    def test_a_call_that_was_taken_back_is_none(self):
         self.written("call")
         self.done("call", "--take-back")
         self.done("call", *self.call_words)
@@ -145,7 +145,7 @@ class Call(OutTest):
 class Refused(OutTest):
     call_words = None
 
-    def test_before_the_call_and_a_call_without_addresses(self) -> None:
+    def test_before_the_call_and_a_call_without_addresses(self):
         sender = ("--from", "vote@other.example")
         self.assertEqual(self.election("letters", "receipts", *sender).status, 9)
         self.done("call")
@@ -172,7 +172,7 @@ class Refused(OutTest):
         said = "The end of the vote was announced: one could vote until Friday, 4 .* The time was extended: one could vote until Sunday, 6 "
         self.assertRegex(self.text_in("letters/result.txt"), said)
 
-    def test_addresses_of_before_the_call_and_that_of_the_result(self) -> None:
+    def test_addresses_of_before_the_call_and_that_of_the_result(self):
         # of several addresses the first that each server takes
         self.change_roll("ada@club", "ädä@club.example home@ada")
         self.done("call", "--to", "vote@club.example")
@@ -206,7 +206,7 @@ class OwnWords(OutTest):
     # its lines stay as they are, also longer ones
     letter += f"{'a line of a letter ' * 5}.\nThe next one\n\nYours, Eve\n"
 
-    def test_each_begins_so_and_an_answer_that_quotes_all_of_it_goes_in(self) -> None:
+    def test_each_begins_so_and_an_answer_that_quotes_all_of_it_goes_in(self):
         self.write("letter.txt", self.letter)
         self.set_clock("2026-11-20T09:00:00+00:00")
         self.done("call", "--to", "Wahlleitung T\u00fcV <vote@club.example>", *Call.call_words[2:])
@@ -245,7 +245,7 @@ class OwnWords(OutTest):
 class Paper(OutTest):
     members = 'who,mail\n"Ada <script>alert(1)</script> & Söhne",\nBen,ben@club.example\nEve,\n'
 
-    def test_who_has_no_address_gets_a_page(self) -> None:
+    def test_who_has_no_address_gets_a_page(self):
         said = self.done("letters", "call").output
         name = re.search(
             r"Without an address: (\S+), eve\. Print (letters/call/\d+/to-print\.html)\.\nNote: (.*)\n",
@@ -287,7 +287,7 @@ class Paper(OutTest):
         self.add(letter("eve", f"> Vote now\n\neve {RANKS}\n", subject=subject, time=EARLIER))
         self.assertEqual((self.numbers()["waiting"], self.stands("eve")), (1, ""))
 
-    def test_a_printed_letter_says_who_sends_it_and_where_to_answer(self) -> None:
+    def test_a_printed_letter_says_who_sends_it_and_where_to_answer(self):
         """Where the secretary's own words do not begin it."""
         self.done("call", "--take-back")
         members = "name,who,mail\na,A,\nben,Ben,ben@club.example\neve,Eve,\ngus,,\n"
@@ -318,7 +318,7 @@ class Names(OutTest):
     names = ["ada-2", "ada"]
     call_words = (*Call.call_words[:-1], "Europe/Berlin")
 
-    def test_no_letter_takes_the_place_of_another(self) -> None:
+    def test_no_letter_takes_the_place_of_another(self):
         """Two letters to ada, at her old address and her new one, beside one to ada-2. Their times
         are in the zone of the end.
         """
@@ -362,7 +362,7 @@ class Names(OutTest):
 
 
 class ReceiptsAndReminders(OutTest):
-    def test_each_has_its_own_reply(self) -> None:
+    def test_each_has_its_own_reply(self):
         """A line that counts, one that is replaced, one that is refused, one that is struck, one
         that is taken back, and a late one.
         """
@@ -423,7 +423,7 @@ class ReceiptsAndReminders(OutTest):
             self.told("undo", "--yes"),
         )
 
-    def test_a_folder_that_is_removed_is_made_again(self) -> None:
+    def test_a_folder_that_is_removed_is_made_again(self):
         """With the same bytes, as long as what they say holds; a receipt of a ballot that is struck
         since says so.
         """
@@ -450,7 +450,7 @@ class ReceiptsAndReminders(OutTest):
         self.assertIn("the secretary has struck it", one_line(parsed(there()[ben])))
         self.assertEqual(there()[ada], before[ada])
 
-    def test_a_ballot_that_counts_is_told_again_beside_what_does_not(self) -> None:
+    def test_a_ballot_that_counts_is_told_again_beside_what_does_not(self):
         """A letter without a ballot, a line that is refused, a ballot that is taken back, and after
         the close one that is late.
         """
@@ -492,7 +492,7 @@ class ReceiptsAndReminders(OutTest):
         self.assertEqual((list(again), again["fay"].count("It was read as")), (["fay"], 1))
         self.assertIn(f"has arrived, and it counts. It was read as: {LAKE}", again["fay"])
 
-    def test_a_letter_of_which_one_ballot_is_entered(self) -> None:
+    def test_a_letter_of_which_one_ballot_is_entered(self):
         """Its elector is told once of that, and the other elector that none of theirs was: Ben, who
         has the same address, or Dan.
         """
@@ -518,7 +518,7 @@ class ReceiptsAndReminders(OutTest):
         shown = ["letter 2, from " in self.told("show", name) for name in ("cleo", "dan", "eve")]
         self.assertEqual(shown, [True, True, False])
 
-    def test_letters_that_are_in_no_receipt_are_named(self) -> None:
+    def test_letters_that_are_in_no_receipt_are_named(self):
         """Letters of a couple and of a stranger. Not a ballot in an elector's name, who is told,
         whatever its head says; and not what a program wrote.
         """
@@ -547,7 +547,7 @@ class ReceiptsAndReminders(OutTest):
         self.told("held", 1, 2, "--set-aside")
         self.assertEqual(self.told("letters", "receipts"), f"3{waits}")
 
-    def test_letters(self) -> None:
+    def test_letters(self):
         self.add(
             letter("ada", f"Ada: {RANKS}.\n"),
             letter("ben", "ben 1,2\n"),
@@ -597,7 +597,7 @@ class ReceiptsAndReminders(OutTest):
         self.assertIn(typed, texts["gus"])
         self.assertNotIn("No ballot from it", texts["gus"])
 
-    def test_one_for_each_elector_and_run(self) -> None:
+    def test_one_for_each_elector_and_run(self):
         self.add(
             letter("dan", "hello\n"),
             letter("eve", f"eve {RANKS}\n", sender="x@x.example"),
@@ -648,7 +648,7 @@ class ReceiptsAndReminders(OutTest):
         self.assertEqual([name for name, _ in messages["fay"].raw_items()], names.split())
         self.assertEqual(messages["fay"]["To"], "fay@club.example")
 
-    def test_to_whom_reminders_go(self) -> None:
+    def test_to_whom_reminders_go(self):
         """A line that came and does not count is told with the reason, as in the receipt. A letter
         that was set aside is not told again.
         """
@@ -693,7 +693,7 @@ class ReceiptsAndReminders(OutTest):
         waits = r"(?m)^5 letters wait until you have looked at them: debvote-election held$"
         self.assertRegex(self.told("letters", "reminders", "--yes"), waits)
 
-    def test_the_end_after_an_extension_in_reminders_and_receipts(self) -> None:
+    def test_the_end_after_an_extension_in_reminders_and_receipts(self):
         self.extend("2026-12-06 18:00")
         found = [self.written("reminders", "--yes")["ada"] for _ in range(2)]
         for message in found:
@@ -712,7 +712,7 @@ class FullDisk(OutTest):
 
     names = ["ada", "ben", "cleo"]
 
-    def test_what_could_not_be_noted_leaves_the_folder_as_it_was(self) -> None:
+    def test_what_could_not_be_noted_leaves_the_folder_as_it_was(self):
         place = self.folder / "letters" / "call" / "4"
         for before in ({}, {"ada.eml": b"1"}):
             # what a killed run left there goes
@@ -726,14 +726,14 @@ class FullDisk(OutTest):
                 pass
             self.assertEqual([file.name for file in place.parent.iterdir()], ["4"])
 
-    def test_the_fault_names_the_place(self) -> None:
+    def test_the_fault_names_the_place(self):
         """And not the folder beside it in which a file that has no room is, under a name that
         nobody knows.
         """
         # in bytes: no letter and no page is as short
         full = functools.partial(resource.setrlimit, resource.RLIMIT_FSIZE, (500, 500))
 
-        def demand_named(place: object, *words: str) -> None:
+        def demand_named(place: object, *words: str):
             before = self.contents()
             ended = self.election(*words, preexec_fn=full)
             said = f"{place}: File too large; it was not changed; put this right, then run the command again"
@@ -752,7 +752,7 @@ class FullDisk(OutTest):
             write_whole(self.folder / "gone" / "closed.txt", b"", 0o600)
         self.assertEqual(raised.exception.filename, str(self.folder / "gone" / "closed.txt"))
 
-    def test_it_loses_no_receipt(self) -> None:
+    def test_it_loses_no_receipt(self):
         """The calls are those that write into the folder and the book; some come in each run, and
         the disk is full at each of them.
         """
@@ -796,7 +796,7 @@ class FullDisk(OutTest):
 
 
 class CloseAndResult(OutTest):
-    def test_an_open_vote(self) -> None:
+    def test_an_open_vote(self):
         self.assert_fault(self.election("letters", "result"), 9, "the vote is not closed")
         self.add_lines(f"ada {RANKS}", f"ben {RANKS}")
         self.done("close", "--early")
@@ -839,7 +839,7 @@ class CloseAndResult(OutTest):
         # the ballot that counts now, and not that of the first close
         self.assertIn("Your own ballot in words: At the lake, then Further", texts["ada"])
 
-    def test_why_no_ballot_of_an_elector_counts(self) -> None:
+    def test_why_no_ballot_of_an_elector_counts(self):
         self.add_lines(f"ada {RANKS}", "ben 1,2", f"cleo {RANKS}", "hal 1,2")
         self.done("strike", 3, "--because", "a mistake of 'ours' & <yours>")
         self.add_lines(f"gus {RANKS}")
@@ -870,7 +870,7 @@ class CloseAndResult(OutTest):
             )
             self.assertRegex(texts[name], told)
 
-    def test_of_a_close_has_the_checksum_and_of_a_second_one_all_get_it(self) -> None:
+    def test_of_a_close_has_the_checksum_and_of_a_second_one_all_get_it(self):
         self.add_lines(f"ada {RANKS}")
         self.assert_fault(self.election("letters", "closed"), 9, "the vote is not closed")
         # the second one names what it takes the place of
@@ -907,7 +907,7 @@ class Secret(OutTest):
     def codes(self) -> dict[str, str]:
         return dict(self.book.rows("SELECT name, code FROM elector_now WHERE code <> ''"))
 
-    def test_the_call_has_the_code_of_its_own_elector_and_an_answer_to_it_goes_in(self) -> None:
+    def test_the_call_has_the_code_of_its_own_elector_and_an_answer_to_it_goes_in(self):
         codes = self.codes()
         letters = self.written("call")
         for name, message in letters.items():
@@ -934,7 +934,7 @@ class Secret(OutTest):
         self.add(letter("ada", f"ada {RANKS}\n", head=head, time=EARLIER))
         self.assertEqual(self.numbers()["valid"], 1)
 
-    def test_a_code_that_went_to_an_address_that_goes(self) -> None:
+    def test_a_code_that_went_to_an_address_that_goes(self):
         """`roll` says who will see that vote, and the letter to the new address; not of an address
         that goes before the code went there.
         """
@@ -973,7 +973,7 @@ class Secret(OutTest):
         told = re.findall(r"It went to another address before: (\S*)\. ", texts["ada"])
         self.assertEqual(told, ["ada@new.example", "wrong@x.example"])
 
-    def test_nothing_else_has_codes_or_ranks(self) -> None:
+    def test_nothing_else_has_codes_or_ranks(self):
         codes = self.codes()
         self.add_lines(f"ada {RANKS}", "ben 1,2", "eve 1", words=("--force",))
         self.add(

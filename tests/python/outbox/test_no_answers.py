@@ -51,7 +51,7 @@ def like_answers(letters: Iterable[str], questions: Questions, code: str) -> lis
 
 
 class Letters(unittest.TestCase):
-    def test_each_kind_in_each_language(self) -> None:
+    def test_each_kind_in_each_language(self):
         for code, (questions, answers) in itertools.product(LANGUAGES, VOTES):
             letters = set[str]()
             for kind in KINDS.values():
@@ -74,7 +74,7 @@ class Letters(unittest.TestCase):
             self.assertGreater(len(letters), 100)
             self.assertEqual(like_answers(letters, questions, code), [], code)
 
-    def test_one_is_seen(self) -> None:
+    def test_one_is_seen(self):
         for text, (questions, _) in (
             ("So (1, 2,\n3)", VOTES[0]),
             ("in place of 2;1", VOTES[1]),
@@ -87,7 +87,7 @@ class Letters(unittest.TestCase):
 class Several(QuestionsTest):
     polls = {**QuestionsTest.polls, "A": f"{FEE}motion = true\n"}
 
-    def test_letters_of_close_and_result(self) -> None:
+    def test_letters_of_close_and_result(self):
         """They have numbers and checksums of each question."""
         for code in LANGUAGES:
             self.folder = self.scratch / code
@@ -130,7 +130,7 @@ class OfSecretary(OutTest):
     poll = OutTest.poll.replace("At the lake", "Pay 1,2,3,4 Euro")
     members = "name,who,mail\nada,,ada@club.example\nben,,\ncleo,Maria Braun,\n"
 
-    def test_it_is_named_or_refused(self) -> None:
+    def test_it_is_named_or_refused(self):
         for name, text in self.texts.items():
             (self.folder / name).parent.mkdir(exist_ok=True, parents=True)
             self.write(name, text)

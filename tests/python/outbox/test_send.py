@@ -30,7 +30,7 @@ REPORT = 'multipart/report; report-type=delivery-status; boundary="b"'
 
 
 class Sending(SendTest):
-    def assert_unreached(self, **wanted: str) -> None:
+    def assert_unreached(self, **wanted: str):
         """Whom `status` names, in both of its forms, with the reason."""
         said = self.told("status")
         self.assertEqual(self.numbers()["not_reached"], wanted)
@@ -41,7 +41,7 @@ class Sending(SendTest):
             )
         self.assertEqual("Not reached" in said, bool(wanted))
 
-    def test_each_gets_one_letter_and_a_second_run_sends_none(self) -> None:
+    def test_each_gets_one_letter_and_a_second_run_sends_none(self):
         noted = []
         # each is noted before the next begins
         self.server.at = lambda _, number: noted.append((number, self.rows("call")[9:]))
@@ -58,7 +58,7 @@ class Sending(SendTest):
         self.assert_none_is_due("call")
         self.assertEqual(list((self.folder / "letters").glob("*/*")), [])
 
-    def test_refused_for_good_or_for_now(self) -> None:
+    def test_refused_for_good_or_for_now(self):
         """Who was refused is named by each later run, of whatever letters, and by `status`, until a
         letter is taken.
         """
@@ -98,7 +98,7 @@ class Sending(SendTest):
         self.assert_unreached()
         self.assert_none_is_due("call")
 
-    def test_who_was_refused_after_the_call_gets_it_again(self) -> None:
+    def test_who_was_refused_after_the_call_gets_it_again(self):
         """By the next run of it, since that names them until a letter is taken."""
         self.assert_sent("call")
         self.add_lines(f"cleo {RANKS}")
@@ -110,7 +110,7 @@ class Sending(SendTest):
             self.assertEqual(self.server.addresses()[-1], f"{name}@club.example")
             self.assert_none_is_due("call")
 
-    def test_who_got_no_letter_is_named(self) -> None:
+    def test_who_got_no_letter_is_named(self):
         """One whose address changed since, and those whom a run that was cut off did not come to;
         not who gets it printed.
         """
@@ -161,7 +161,7 @@ class Sending(SendTest):
         sender: str = "mailer-daemon@mail.example",
         field: str = "",
         time: str = TEN,
-    ) -> None:
+    ):
         sent = next(
             taken.data.decode().replace("\r\n", "\n")
             for taken in self.server.taken
@@ -197,7 +197,7 @@ class Sending(SendTest):
             )
         )
 
-    def test_what_is_no_letter_that_came_back(self) -> None:
+    def test_what_is_no_letter_that_came_back(self):
         """A program answers for somebody who is away, or reports from the elector's own address; a
         delivery is late, or done; a stranger has no own mark; a person answers.
         """
@@ -240,7 +240,7 @@ class Sending(SendTest):
             )
             self.assert_unreached(**{"ada": "came back"} if number == 4 else {})
 
-    def test_whose_letter_came_back_is_named_and_gets_it_again(self) -> None:
+    def test_whose_letter_came_back_is_named_and_gets_it_again(self):
         """In each run, until the address is another one. A server that takes letters, as a
         reminder, shows nothing.
         """
@@ -272,7 +272,7 @@ class Sending(SendTest):
         self.assert_sent("call", "Sent 9 of 9 letters.\n")
         self.assert_unreached()
 
-    def test_a_letter_that_came_back_is_no_news_once_a_ballot_came(self) -> None:
+    def test_a_letter_that_came_back_is_no_news_once_a_ballot_came(self):
         """Nor is a copy of it that is added later. A ballot on paper shows nothing."""
         self.assert_sent("call")
         for name in ("ada", "ben"):
@@ -298,7 +298,7 @@ class Sending(SendTest):
         self.done("undo", "--yes")
         self.assert_unreached(**both)
 
-    def test_what_came_last_is_the_reason(self) -> None:
+    def test_what_came_last_is_the_reason(self):
         refused = {ALL[0]: "550 no"}
         self.assert_sent("call", "", 9, refused)
         self.assert_sent("call")
@@ -316,14 +316,14 @@ class Sending(SendTest):
         self.came_back("ada", "head")
         self.assert_unreached(ada="came back")
 
-    def test_a_run_that_goes_on_sends_nothing_twice(self) -> None:
+    def test_a_run_that_goes_on_sends_nothing_twice(self):
         """Nor to those whose letter came back before."""
         self.assert_sent("call")
         self.came_back("ada", "whole")
         self.assert_sent("reminders", "Sent 8 of 9 letters.\n", 9, {ALL[1]: "451 later"})
         self.assert_sent("reminders", "Sent 1 of 1 letter.\n")
 
-    def test_each_own_mark_is_told_by_a_letter(self) -> None:
+    def test_each_own_mark_is_told_by_a_letter(self):
         """That of a second address, and of an address that is put back: whoever knows the first
         address has the old mark. A receipt is none.
         """
@@ -344,7 +344,7 @@ class Sending(SendTest):
             self.assert_unreached()
             self.assert_none_is_due("call")
 
-    def test_an_old_address_that_refuses_is_no_fault(self) -> None:
+    def test_an_old_address_that_refuses_is_no_fault(self):
         self.change_roll("ada@club", "ada@new")
         self.add_lines(f"ada {RANKS}")
         for address, is_named in ((ALL[0], False), ("ada@new.example", True)):
@@ -360,7 +360,7 @@ class Sending(SendTest):
             )
             self.add_lines(f"ada {OTHER_RANKS}")
 
-    def test_no_other_answer_than_that_it_was_taken_is_one(self) -> None:
+    def test_no_other_answer_than_that_it_was_taken_is_one(self):
         """After the letter, and not before it; what is no answer of a mail server is none. Nobody
         else would learn that it is lost.
 
@@ -385,7 +385,7 @@ class Sending(SendTest):
                 found = letter.state, letter.is_refused_for_good
                 self.assertEqual(found, (state, is_for_good), answer)
 
-    def test_a_receipt_that_was_refused_goes_to_a_new_address(self) -> None:
+    def test_a_receipt_that_was_refused_goes_to_a_new_address(self):
         """One that was refused for now, as servers answer of a domain that has no mail server, goes
         to the old address, too.
         """
@@ -407,7 +407,7 @@ class Sending(SendTest):
         self.assert_sent("receipts", "Sent 9 of 9 letters.")
         self.assertEqual(self.server.addresses()[4:], now)
 
-    def test_a_receipt_that_is_a_file_is_sent_once_to_each_address(self) -> None:
+    def test_a_receipt_that_is_a_file_is_sent_once_to_each_address(self):
         """Whether the address changed before it was written or after."""
         self.assertEqual(self.written("receipts"), {})
         self.add_lines(f"cleo {RANKS}", "dan 2,1,4,3")
@@ -432,7 +432,7 @@ class Sending(SendTest):
             )
             self.assert_none_is_due("receipts")
 
-    def test_a_receipt_on_paper_is_printed_once(self) -> None:
+    def test_a_receipt_on_paper_is_printed_once(self):
         self.change_roll(ALL[0], "")
         self.add_lines(f"ada {RANKS}", f"ben {RANKS}")
         place = self.folder / "letters" / "receipts"
@@ -459,14 +459,14 @@ class Sending(SendTest):
         self.send("receipts")
         self.assertEqual(len(list(place.rglob("*.html"))), 2)
 
-    def test_after_a_second_close_its_letter_goes_out_too(self) -> None:
+    def test_after_a_second_close_its_letter_goes_out_too(self):
         for _ in range(2):
             self.done("close", "--early")
             self.assert_sent("closed", "Sent 9 of 9 letters.\n")
             self.assert_none_is_due("closed")
             self.done("reopen", "--because", "a bag was forgotten")
 
-    def test_who_was_not_reached_gets_the_whole_call_after_an_extension(self) -> None:
+    def test_who_was_not_reached_gets_the_whole_call_after_an_extension(self):
         """A run that took nothing reaches nobody, whether the letters were files before or not; nor
         does a call that was refused, or came back.
         """
@@ -501,7 +501,7 @@ class Sending(SendTest):
                 self.assert_sent("reminders", "", 9, refused)
                 self.assert_unreached(ada="came back", ben="refused", cleo="refused")
 
-    def test_a_refused_sender_and_a_lost_connection_cost_nobody_their_letter(self) -> None:
+    def test_a_refused_sender_and_a_lost_connection_cost_nobody_their_letter(self):
         self.server.mail_answer = "553 not yours"
         said = "it takes no letters now: 553 not yours", "0 of 9 letters taken in this run"
         self.assert_fault(self.send("call"), 7, *said)
@@ -523,7 +523,7 @@ class Sending(SendTest):
         self.assertEqual((self.server.addresses(), len(cut)), (ALL, 2))
         self.assert_none_is_due("call")
 
-    def test_a_server_that_is_not_there_or_lets_nobody_in(self) -> None:
+    def test_a_server_that_is_not_there_or_lets_nobody_in(self):
         self.server.stop()
         self.assert_fault(self.send("call"), 7, f"{self.server.name}: no connection")
         self.server = self.mail_server_with_login()
@@ -540,7 +540,7 @@ class Sending(SendTest):
         self.assertEqual(self.server.logins[-1], (b"vote", b"right"))
         self.assertEqual(self.server.addresses(), ALL)
 
-    def test_words_that_do_not_go_together(self) -> None:
+    def test_words_that_do_not_go_together(self):
         send = ("--send", "--server", "x.example")
         for words, *parts in (
             (
@@ -570,7 +570,7 @@ class Sending(SendTest):
             self.assertEqual((ended.status, found), (2, [True] * len(parts)), faults)
         self.assertEqual((self.rows("call"), self.server.taken), ([], []))
 
-    def test_a_receipt_that_is_outdated_before_it_is_taken(self) -> None:
+    def test_a_receipt_that_is_outdated_before_it_is_taken(self):
         """It would tell of nothing: the letter that it is about is a ballot now."""
         self.add(letter("cleo", f"dan {RANKS}\n"))
         self.assert_sent("receipts", status=9, refused={ALL[3]: "451 later"})
@@ -585,7 +585,7 @@ class Remembered(SendTest):
     is never kept.
     """
 
-    def test_the_server_of_the_last_letters(self) -> None:
+    def test_the_server_of_the_last_letters(self):
         send = self.election("letters", "call", "--send")
         self.assert_fault(send, 2, "--send: no server is named", "give --server HOST[:PORT]")
         self.assertIn(
@@ -625,7 +625,7 @@ class Remembered(SendTest):
         self.server = first
         self.assert_sent("reminders")
 
-    def test_the_user_but_not_the_password(self) -> None:
+    def test_the_user_but_not_the_password(self):
         self.server = self.mail_server_with_login()
         self.write("password", "right\n")
         file = ("--password-file", "password")
@@ -651,11 +651,11 @@ class Remembered(SendTest):
 class Endless(unittest.TestCase):
     """A server that answers now and then, and never to the end."""
 
-    def test_a_conversation_has_an_end(self) -> None:
+    def test_a_conversation_has_an_end(self):
         begin, drops = [], []
 
         class Dropping(PlainServer):
-            def converse(self, connection: socket.socket) -> None:
+            def converse(self, connection: socket.socket):
                 with connection, contextlib.suppress(OSError):
                     for line in ("220 here\r\n", "250 here\r\n", *begin):
                         connection.sendall(line.encode())
@@ -702,7 +702,7 @@ class Killed(SendTest):
         self.server.at = lambda now, count: False
         return process.returncode
 
-    def test_none_is_lost_and_only_that_of_the_kill_may_go_out_twice(self) -> None:
+    def test_none_is_lost_and_only_that_of_the_kill_may_go_out_twice(self):
         for kills, (step, number) in enumerate(
             itertools.product(("mail", "rcpt", "data"), range(3))
         ):
@@ -720,7 +720,7 @@ class Killed(SendTest):
 
 
 class SeveralRuns(SendTest):
-    def test_reminders_that_were_cut_off_go_on_and_else_each_run_is_a_new_one(self) -> None:
+    def test_reminders_that_were_cut_off_go_on_and_else_each_run_is_a_new_one(self):
         self.assert_sent("reminders", status=9, refused=dict.fromkeys(ALL[1:4], "451 later"))
         self.assertEqual(len(self.server.taken), 6)
         # who has voted meanwhile is not reminded, who has a new address is, and the old one holds
@@ -732,7 +732,7 @@ class SeveralRuns(SendTest):
         wanted = [ALL[1], "cleo@new.example", *ALL[:2], "cleo@new.example", *ALL[4:]]
         self.assertEqual(self.server.addresses()[6:], wanted)
 
-    def test_a_reminder_that_no_server_can_take_holds_up_no_new_run(self) -> None:
+    def test_a_reminder_that_no_server_can_take_holds_up_no_new_run(self):
         """One to be printed, or to an address that was wrong, or that the server postpones for
         days.
         """
@@ -750,7 +750,7 @@ class SeveralRuns(SendTest):
         for _ in range(2):
             self.assert_sent("reminders", "Sent 7 of 8 letters.", 9, refused)
 
-    def test_two_runs_at_once_send_each_letter_once(self) -> None:
+    def test_two_runs_at_once_send_each_letter_once(self):
         """Processes of their own, at the same time."""
         runs = [self.sending() for _ in range(3)]
         outputs = [run.communicate(timeout=elections.SECONDS)[0] for run in runs]
@@ -758,7 +758,7 @@ class SeveralRuns(SendTest):
         self.assertEqual(sum("Sent 9 of 9 letters." in output for output in outputs), 1, outputs)
         self.assertEqual(self.server.addresses(), ALL)
 
-    def test_the_password_is_asked_and_a_bar_is_shown(self) -> None:
+    def test_the_password_is_asked_and_a_bar_is_shown(self):
         self.server = self.mail_server_with_login()
         desk = terminal.Terminal(
             self, "letters", "call", "--send", "--server", self.server.name, "--user", "vote"
@@ -772,7 +772,7 @@ class SeveralRuns(SendTest):
             self.assertIn(f"[{'#' * width}{'.' * (40 - width)}] {count} of 9", shown)
         self.assertIn("Sent 9 of 9 letters.", shown)
 
-    def test_reminders_within_a_day_ask_at_a_terminal(self) -> None:
+    def test_reminders_within_a_day_ask_at_a_terminal(self):
         """And stop elsewhere."""
         self.assert_sent("reminders")
         words = ("letters", "reminders", "--send", "--server", self.server.name)
@@ -806,7 +806,7 @@ class SeveralRuns(SendTest):
 class Secret(SendTest):
     poll = elections.POLL + "secret = true\n"
 
-    def test_a_code_that_a_server_took_at_last_went_to_that_address(self) -> None:
+    def test_a_code_that_a_server_took_at_last_went_to_that_address(self):
         """It is told as such to the next one; not one that was refused and never taken."""
         for refused in ({ALL[0]: "451 later", ALL[1]: "550 none"}, {ALL[1]: "550 none"}):
             self.assert_sent("call", "", 9, refused)
@@ -828,7 +828,7 @@ class Secret(SendTest):
 class Encrypted(unittest.TestCase):
     """To all but a loopback the connection is encrypted, and the server has to show who it is."""
 
-    def test_which_servers_are_near(self) -> None:
+    def test_which_servers_are_near(self):
         for text, host, port, is_encrypted in (
             ("mail.example.org:1", "mail.example.org", 1, True),
             ("mail.example.org:65535", "mail.example.org", 65535, True),
@@ -844,18 +844,18 @@ class Encrypted(unittest.TestCase):
             with self.assertRaises(Fault, msg=text):
                 smtp.server_of(text)
 
-    def assert_gets_nothing(self, server: MailServer, near: smtp.Server, said: str) -> None:
+    def assert_gets_nothing(self, server: MailServer, near: smtp.Server, said: str):
         with self.assertRaises(Fault) as caught:
             sent_to(near)
         self.assertIn(said, str(caught.exception.reason).lower())
         self.assertEqual(server.steps, [])
 
-    def test_a_server_that_offers_no_encryption_gets_nothing(self) -> None:
+    def test_a_server_that_offers_no_encryption_gets_nothing(self):
         server = MailServer()
         self.addCleanup(server.stop)
         self.assert_gets_nothing(server, smtp.Server("127.0.0.1", server.port, True), "starttls")
 
-    def test_a_certificate_that_nobody_vouches_for_is_refused_and_a_good_one_is_taken(self) -> None:
+    def test_a_certificate_that_nobody_vouches_for_is_refused_and_a_good_one_is_taken(self):
         with tempfile.TemporaryDirectory() as place:
             key, certificate = f"{place}/key", f"{place}/certificate"
             words = f"openssl req -x509 -newkey ec -pkeyopt ec_paramgen_curve:P-256 -nodes -keyout {key} -out {certificate} -days 2"

@@ -27,7 +27,7 @@ class Ready(SendTest):
         self.assertEqual(AT_LAST in ended.output, not (names or status))
         return ended
 
-    def test_a_whole_vote(self) -> None:
+    def test_a_whole_vote(self):
         said = "\nReady: 3 letters of the call\nNext: put call on the web site; then debvote-election letters --send sends "
         self.assertIn(said, self.done("call").output)
         said = self.assert_sent_by_all("Vote", "ada", "ben").output
@@ -71,7 +71,7 @@ class Ready(SendTest):
         self.assert_sent_by_all("")
         self.done("log", "--check")
 
-    def test_what_is_left_to_others(self) -> None:
+    def test_what_is_left_to_others(self):
         """A letter that was refused is tried again; what one kind stops at keeps no other back."""
         self.server.rcpt_answers["ada@club.example"] = "450 later"
         said = "call: Sent 1 of 2 letters.\ncall: Refused: ada, ada@club.example: 450 later\n"
@@ -86,7 +86,7 @@ class Ready(SendTest):
         ended = self.assert_sent_by_all("Vote closed", "ada", "ben", status=9)
         self.assertIn("these letters arrived in time, and wait: 1;", ended.faults)
 
-    def test_words(self) -> None:
+    def test_words(self):
         fault = "letters: no kind is named; nothing was written: name one of call, receipts, reminders, closed, result; only --send goes without it"
         self.assert_refused(["letters"], 2, fault)
         send = ("letters", "--send", "--server", self.server.name)
@@ -101,7 +101,7 @@ class OnTheRoll(SendTest):
     codes_words = ("--on-roll",)
     call_words = ("--to", "vote@club.example", "--yes")
 
-    def test_no_letter(self) -> None:
+    def test_no_letter(self):
         ended = self.election("letters", "--send", "--server", self.server.name)
         self.assert_fault(ended, 9, "codes are on the roll, and nobody knows whose they are")
         said = self.done("close", "--yes").output
@@ -113,7 +113,7 @@ class WithCodes(SendTest):
     poll = "secret = true\n" + elections.POLL
     call_words = ("--to", "vote@club.example", "--at", "https://club.example/vote/", "--yes")
 
-    def test_codes_go_out_only_if_they_were_written(self) -> None:
+    def test_codes_go_out_only_if_they_were_written(self):
         """They may be on slips."""
         self.assertNotIn("Ready: ", self.done("call").output)
         self.done("desk", given="ada 1,2,4,3\n")
@@ -128,7 +128,7 @@ class WithCodes(SendTest):
 class NoAddress(SendTest):
     call_words = ()
 
-    def test_no_letter(self) -> None:
+    def test_no_letter(self):
         """Nobody knows from which address they come, or where the result is."""
         for command in ("close", "publish"):
             ended = self.election(command)
@@ -142,12 +142,12 @@ class NoAddress(SendTest):
 
 @NEEDS_PHP
 class WithBox(boxes.BoxElectionTest):
-    def setUp(self) -> None:
+    def setUp(self):
         super().setUp()
         self.server = MailServer()
         self.addCleanup(self.server.stop)
 
-    def test_a_call_whose_page_nobody_has_seen(self) -> None:
+    def test_a_call_whose_page_nobody_has_seen(self):
         """It is not sent; `letters --send` asks itself, and sends it once the page is there."""
         words = (*boxes.UNTIL, "--to", "vote@club.example", "--at", self.host.at, "--box")
         next_ = ", vote.php too; then debvote-election letters --send sends the letters, or debvote-election letters call writes them, and tries first"

@@ -138,7 +138,7 @@ def texts(now: Composer, answers: str = "1,2,3") -> list[str]:
 
 
 class Texts(unittest.TestCase):
-    def test_each_language_says_all_in_its_own_words(self) -> None:
+    def test_each_language_says_all_in_its_own_words(self):
         english = {
             line
             for text in texts(vote())
@@ -157,7 +157,7 @@ class Texts(unittest.TestCase):
             for subject in subjects:
                 self.assertTrue(subject.endswith(": Spring"), subject)
 
-    def test_a_signed_vote_asks_for_a_signature(self) -> None:
+    def test_a_signed_vote_asks_for_a_signature(self):
         for key, said in (
             ("A" * 40, "Write and sign two lines"),
             ("", "has no key of yours: a letter from you waits"),
@@ -167,7 +167,7 @@ class Texts(unittest.TestCase):
             self.assertEqual("Write and sign" in text, bool(key))
         self.assertNotIn("OpenPGP", vote().reminder(ADA, []).text)
 
-    def test_after_the_end_nobody_is_asked_to_send_anything(self) -> None:
+    def test_after_the_end_nobody_is_asked_to_send_anything(self):
         for code in LANGUAGES:
             for reason in (Reason.TOO_LONG(), Reason.NOT_ALONE(number=1), Reason.NO_BALLOT()):
                 came = WAITS._replace(letter=came_letter(reason))
@@ -182,7 +182,7 @@ class Texts(unittest.TestCase):
                 self.assertNotIn(asked or "_,_", over)
                 self.assertNotIn("_,_", over)
 
-    def test_a_reason_that_says_nothing_is_not_told(self) -> None:
+    def test_a_reason_that_says_nothing_is_not_told(self):
         """That the secretary has to look at it is said once."""
         texts = [
             [vote(code).receipt(ADA, [WAITS._replace(letter=came_letter(reason))]).text]
@@ -192,7 +192,7 @@ class Texts(unittest.TestCase):
         for without, *others in zip(*[iter(texts)] * 3):
             self.assertEqual(others, [without, without])
 
-    def test_of_a_letter_of_two_only_whose_ballot_was_typed_is_told_so(self) -> None:
+    def test_of_a_letter_of_two_only_whose_ballot_was_typed_is_told_so(self):
         ballots = [typed(1, "ada 1,2,3")._replace(is_typed=False), typed(2, "ben 1,2,3")]
         letter = came_letter(None, entered=ballots)
         for number, is_told in ((1, False), (2, True)):
@@ -200,7 +200,7 @@ class Texts(unittest.TestCase):
             told = vote().fate_in_words(fate, "ada")
             self.assertEqual("The secretary typed it" in told, is_told)
 
-    def test_of_a_result(self) -> None:
+    def test_of_a_result(self):
         """The letter for all, and within it, behind the winner, the own ballot and where the result
         is.
         """
@@ -227,7 +227,7 @@ class Texts(unittest.TestCase):
             none = vote().letter("result", ADA, letter=letter, **how | {"answers": None}).text
             self.assertIn("The result has no ballot of yours", none)
 
-    def test_in_a_secret_vote_no_letter_repeats_what_came(self) -> None:
+    def test_in_a_secret_vote_no_letter_repeats_what_came(self):
         elector, came = ADA._replace(code="c0de" * 8), all_that_came()
         now = vote(has_aliases=True)
         for letter in (
@@ -249,7 +249,7 @@ class CallLetter(unittest.TestCase):
         letters += [now.reminder(elector, []), now.receipt(elector, [WAITS])]
         return [letter.text for letter in letters]
 
-    def test_all_have_one_block(self) -> None:
+    def test_all_have_one_block(self):
         for code in LANGUAGES:
             for text in self.asking(vote(code)):
                 self.assertIn(f"{AT}#ada/abcdefghjk", text)
@@ -266,7 +266,7 @@ class CallLetter(unittest.TestCase):
                 self.assertLess(len(lines), 60)
                 self.assertLessEqual(max(map(len, lines)), 72)
 
-    def test_in_a_secret_vote_the_link_has_no_name_and_no_letter_a_command(self) -> None:
+    def test_in_a_secret_vote_the_link_has_no_name_and_no_letter_a_command(self):
         elector = ADA._replace(code="c0de" * 8)
         for text in self.asking(vote(has_aliases=True), elector):
             self.assertIn(f"{AT}\n", text)
@@ -277,7 +277,7 @@ class CallLetter(unittest.TestCase):
             self.assertIn("  c0dec0de", text)
             self.assertNotRegex(text, "python|sha256")
 
-    def test_the_words_of_the_secretary_come_first_and_it_is_said_once_whose_they_are(self) -> None:
+    def test_the_words_of_the_secretary_come_first_and_it_is_said_once_whose_they_are(self):
         whose = "The words at the head of this letter are those of whoever sends it. The program debvote wrote the rest, and has not checked them."
         for code in LANGUAGES:
             now = vote(code, letter_text=self.letter)
@@ -295,7 +295,7 @@ class CallLetter(unittest.TestCase):
     @unittest.skipUnless(
         importlib.util.find_spec("cryptography"), "python3-cryptography is not installed"
     )
-    def test_what_a_vote_by_clicks_says(self) -> None:
+    def test_what_a_vote_by_clicks_says(self):
         of_box = vote(box_key=b"x")
         # what the page cannot prevent is said in the letter, too, but for one on paper
         limit = "Whoever changes the page sees and can change what is chosen on it. "
@@ -318,7 +318,7 @@ class CallLetter(unittest.TestCase):
             text = is_read(secret.call_letter(ADA, is_extension=False).text)
             self.assertIn(limit + said, text)
 
-    def test_what_one_letter_says_and_another_does_not(self) -> None:
+    def test_what_one_letter_says_and_another_does_not(self):
         # the texts are in the call on paper, and not in what follows it; a word is an answer to a
         # motion alone
         motion = SealedPoll("Fee", ("Yes",), (1,), "No", 0, ("ada", "ben"), motion=True)
@@ -337,7 +337,7 @@ class CallLetter(unittest.TestCase):
         said = "Question A: Spring The quorum is 1 vote: at least 1 elector must prefer an option to the default option."
         self.assertIn(said, is_read(now.call_letter(ADA, is_extension=False).text))
 
-    def test_greeting_mark_and_texts(self) -> None:
+    def test_greeting_mark_and_texts(self):
         """By the secretary's own words, or by the name where these do not greet."""
         greeting = (
             "Dear all",
@@ -375,7 +375,7 @@ class CallLetter(unittest.TestCase):
         for now, is_extension in ((now, True), (vote(questions=told), False)):
             self.assertNotIn("A lake", now.call_letter(ADA, is_extension=is_extension).text)
 
-    def test_it_says_what_asks_for_more_than_a_plain_majority(self) -> None:
+    def test_it_says_what_asks_for_more_than_a_plain_majority(self):
         for ratios, quorum, is_told in (((1, 3), 1, True), ((1, 1), 0, False)):
             poll = dataclasses.replace(POLL, ratios=ratios, quorum=quorum)
             text = is_read(vote(questions=alone(poll)).call_letter(ADA, is_extension=False).text)
@@ -404,13 +404,13 @@ class Printed(unittest.TestCase):
         subprocess.run([BROWSER, *words.split()], check=True, capture_output=True)
         return len(re.findall(rb"/Type\s*/Page\b", pathlib.Path(folder, "page.pdf").read_bytes()))
 
-    def test_no_letter_of_a_secret_vote_is_on_the_back_of_another(self) -> None:
+    def test_no_letter_of_a_secret_vote_is_on_the_back_of_another(self):
         """Whether they are printed on one side of the paper or on both."""
         letters = [(name, [[("Hello", "paragraph")]]) for name in ("Ada", "Ben", "Cleo")]
         for is_secret, sides in ((False, 3), (True, 6)):
             self.assertEqual(self.sides(is_secret=is_secret, letters=letters), sides)
 
-    def test_a_letter_has_at_most_two_sides_and_the_texts_or_where_they_are(self) -> None:
+    def test_a_letter_has_at_most_two_sides_and_the_texts_or_where_they_are(self):
         """With twelve options, no page, a secret code, and 600 characters of the secretary's own;
         or with texts, if they have room.
         """
@@ -456,7 +456,7 @@ class Printed(unittest.TestCase):
         self.assertEqual(boxes, (12 + 3) * len(LANGUAGES))
         self.assertEqual(self.sides(is_secret=False, letters=letters), 2 * len(letters))
 
-    def test_on_paper_the_ballot_is_cut_off_and_has_no_code(self) -> None:
+    def test_on_paper_the_ballot_is_cut_off_and_has_no_code(self):
         """It has all that is given back, and nothing else asks for ranks, or for an e-mail."""
         where = "Your ballot is the last part of this letter: fill it in, cut it off, and give it to whoever sent you this letter."
         boxes = "Write a number into each box: 1 is the best, equal numbers are allowed, and an empty box is last. Return only this part."
@@ -492,7 +492,7 @@ class Bytes(unittest.TestCase):
         due.text_of = lambda letter: OutgoingText(subject, "[0123456789abcdef-abcdefghjk]", text)
         return message(due, LETTER, is_draft=False)  # type: ignore[arg-type]
 
-    def test_texts_come_through_as_they_are(self) -> None:
+    def test_texts_come_through_as_they_are(self):
         for text in (
             "a\n",
             "\u00e4\n",
@@ -509,7 +509,7 @@ class Bytes(unittest.TestCase):
             self.assertNotRegex(data.partition(b"\n\n")[2], rb"(?m)^>*From |^\.$")
             self.assertLess(max(map(len, data.split(b"\n"))), 998)
 
-    def test_heads(self) -> None:
+    def test_heads(self):
         for title in (
             "a\nBcc: x@y.example",
             "\u00fc" * 200,
@@ -555,7 +555,7 @@ class Bytes(unittest.TestCase):
         self.assertRegex(text, r"\ADear Ada [^\n]+(\n[^\n]+)*\n\nCLOSED\n\Z")
         self.assertLess(len(text), 250)
 
-    def test_one_fault_a_line(self) -> None:
+    def test_one_fault_a_line(self):
         ranks = "bad rank count: {} ranks, the poll has 3 options".format
         said = "One of its answers has {}, and the question has 3 options.".format
         for answer, is_of_several, wanted in (

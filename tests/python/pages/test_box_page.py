@@ -82,11 +82,11 @@ class BoxPageTest(unittest.TestCase):
     maxDiff = None
 
     @classmethod
-    def setUpClass(cls) -> None:
+    def setUpClass(cls):
         cls.window = cls.enterClassContext(Window(390, 844))
         cls.ask = cls.window.ask
 
-    def visit(self, at: str, place: str = "") -> None:
+    def visit(self, at: str, place: str = ""):
         self.window.tell("Page.navigate", url="about:blank")
         self.window.until("location.href === 'about:blank'")
         self.window.faults.clear()
@@ -96,7 +96,7 @@ class BoxPageTest(unittest.TestCase):
     def state(self) -> dict[str, Any]:
         return dict(self.ask(STATE))
 
-    def assert_state(self, **wanted: object) -> None:
+    def assert_state(self, **wanted: object):
         """What is seen is that of an empty page, but for this."""
         self.assertEqual(self.state(), EMPTY | wanted)
 
@@ -104,7 +104,7 @@ class BoxPageTest(unittest.TestCase):
         self.window.ballot(name, ranks)
         return self.state()
 
-    def press(self) -> None:
+    def press(self):
         self.ask("document.getElementById('Vote').click()")
 
     def sent(self) -> str:
@@ -114,12 +114,12 @@ class BoxPageTest(unittest.TestCase):
         self.window.until(f"!{passing}.includes(document.getElementById('Sent').textContent)")
         return str(self.state()["said"])
 
-    def until_arrived(self) -> None:
+    def until_arrived(self):
         self.window.until(
             "document.getElementById('Sent').textContent.startsWith('It has arrived')"
         )
 
-    def demand_arrived(self) -> None:
+    def demand_arrived(self):
         self.press()
         self.until_arrived()
 
@@ -131,7 +131,7 @@ class RealBoxTest(BoxPageTest):
     # a link of another call
     new = "#"
 
-    def setUp(self) -> None:
+    def setUp(self):
         room = tempfile.TemporaryDirectory(prefix="debvote-page-")
         self.folder = pathlib.Path(self.enterContext(room))
         (self.folder / "index.html").write_bytes(page_with_box())
@@ -159,7 +159,7 @@ class RealBoxTest(BoxPageTest):
 
 
 class Clicks(RealBoxTest):
-    def test_a_click_a_change_and_back_again(self) -> None:
+    def test_a_click_a_change_and_back_again(self):
         self.visit(self.host.at, PLACES["ada"])
         self.assert_state()
         self.choose("12-3")
@@ -211,7 +211,7 @@ class Clicks(RealBoxTest):
         for secret in (LINKS["ada"], OWNS["ada"], "1,2,-", "3,-,-,-"):
             self.assertNotIn(secret, self.file.read_text())
 
-    def test_only_with_the_whole_link_of_the_elector_on_the_line(self) -> None:
+    def test_only_with_the_whole_link_of_the_elector_on_the_line(self):
         """And not with one that was sent on, under a name that begins as theirs."""
         call = replace(CALL, questions=alone(with_roll(POLL, (*ROLL, "ada-lee"))))
         (self.folder / "index.html").write_bytes(page_with_box(call=call))
@@ -253,7 +253,7 @@ class Clicks(RealBoxTest):
                 self.assert_state(line="ada 1,2,3,4", **{what: True})
         self.assertEqual({*self.host.requests()}, {"GET /"})
 
-    def test_under_a_worker_of_another_page(self) -> None:
+    def test_under_a_worker_of_another_page(self):
         """It may change this page."""
         (self.folder / "else.html").write_text("<!doctype html><p>Elsewhere")
         (self.folder / "worker.js").write_text("")
@@ -264,7 +264,7 @@ class Clicks(RealBoxTest):
         self.choose("1234")
         self.assert_state(line="ada 1,2,3,4", worked=True)
 
-    def test_what_was_not_taken_is_sealed_anew_with_the_time_of_now(self) -> None:
+    def test_what_was_not_taken_is_sealed_anew_with_the_time_of_now(self):
         """What may have arrived is not, and its line can't be changed: it is sent again as it was,
         and counts once.
         """
@@ -291,7 +291,7 @@ class Clicks(RealBoxTest):
         self.assertEqual((len({*posted[:3]}), len({*posted[2:]})), (3, 1))
         self.assertEqual(self.lines(), ["cleo 4,3,2,1"])
 
-    def test_a_link_that_a_new_one_has_replaced(self) -> None:
+    def test_a_link_that_a_new_one_has_replaced(self):
         self.visit(self.host.at, f"#ada/{OWNS['ada']}/{LINKS['ben']}")
         self.choose("1234")
         self.assertEqual(self.sent(), WORDS["unknown"])
@@ -300,7 +300,7 @@ class Clicks(RealBoxTest):
         self.window.until("document.getElementById('Sent').textContent === ''")
         self.demand_arrived()
 
-    def test_a_page_that_is_still_open_takes_no_new_link(self) -> None:
+    def test_a_page_that_is_still_open_takes_no_new_link(self):
         """It shows the options in the order of before."""
         self.visit(self.host.at, PLACES["ada"])
         # the call was taken back, and made anew with the options in another order
@@ -324,19 +324,19 @@ class Clicks(RealBoxTest):
 class Members(RealBoxTest):
     """What members do besides, on a telephone."""
 
-    def setUp(self) -> None:
+    def setUp(self):
         super().setUp()
         self.window.resize(360, 640)
         self.addCleanup(self.window.resize, 390, 844)
         self.visit(self.host.at, PLACES["ada"])
 
-    def tap(self, ranks: str) -> None:
+    def tap(self, ranks: str):
         """Touches the buttons of these ranks, as a browser notes it that comes back to the page."""
         for place, rank in enumerate(ranks, start=1):
             button = f"[name='Rank-{place}'][value='{rank}']"
             self.ask(f'document.querySelector("{button}").click()')
 
-    def test_back_and_forth(self) -> None:
+    def test_back_and_forth(self):
         """A browser that kept the page shows what arrived; one that loads it again fills in the
         ranks, and who presses again sends the same ballot once more.
         """
@@ -354,13 +354,13 @@ class Members(RealBoxTest):
         self.demand_arrived()
         self.assertEqual(self.lines(), ["ada 1,2,3,4"] * 2)
 
-    def go_and_come_back(self) -> None:
+    def go_and_come_back(self):
         self.window.tell("Page.navigate", url=f"{self.host.at}else.html")
         self.window.until(f"!({IS_THERE})")
         self.ask("setTimeout(() => history.back())")
         self.window.until(IS_THERE)
 
-    def test_a_telephone_that_sleeps(self) -> None:
+    def test_a_telephone_that_sleeps(self):
         """Between opening and pressing, and between pressing and the answer."""
         go, kept = queue.SimpleQueue[bool](), queue.SimpleQueue[bool]()
 
@@ -372,7 +372,7 @@ class Members(RealBoxTest):
                 kept.put(True)
             yield said
 
-        def become(state: str) -> None:
+        def become(state: str):
             self.window.tell("Page.setWebLifecycleState", state=state)
 
         with Liar(lie) as between:
@@ -390,7 +390,7 @@ class Members(RealBoxTest):
             self.until_arrived()
         self.assertEqual(self.lines(), ["ada 1,2,3,4"])
 
-    def test_a_telephone_without_a_network(self) -> None:
+    def test_a_telephone_without_a_network(self):
         self.tap("1234")
         network = {"latency": 0, "downloadThroughput": -1, "uploadThroughput": -1}
         self.window.tell("Network.enable")
@@ -414,7 +414,7 @@ class Answers(BoxPageTest):
 
         return self.enterContext(Liar(all_of))
 
-    def test_what_is_said_of_each_answer(self) -> None:
+    def test_what_is_said_of_each_answer(self):
         answers = queue.SimpleQueue[list[bytes | float]]()
         host = self.serve(lambda request: answers.get(), page_with_box(patience=3_000))
         self.visit(host.at, PLACES["dan"])
@@ -466,14 +466,14 @@ class Answers(BoxPageTest):
         for number in numbers:
             self.assertRegex(number, rb"\A[0-9a-f]{32}\Z")
 
-    def test_where_its_script_may_not_run(self) -> None:
+    def test_where_its_script_may_not_run(self):
         policy = "Content-Security-Policy: default-src 'self'"
         page = answered(page_with_box(), 200, "Content-Type: text/html", policy)
         host = self.enterContext(Liar(lambda request: [page]))
         self.visit(host.at, PLACES["ada"])
         self.assert_state(scriptless=True)
 
-    def test_where_the_script_on_the_host_is_gone_after_the_end(self) -> None:
+    def test_where_the_script_on_the_host_is_gone_after_the_end(self):
         """The form is free, and the same ballot is sent as it was."""
         call = replace(CALL, until=datetime.datetime.fromisoformat(NOW.decode()))
         host = self.serve(lambda request: [answered(b"", 404)], page_with_box(call=call))
@@ -484,7 +484,7 @@ class Answers(BoxPageTest):
             self.assertEqual(self.state()["fields"], 21)
         self.assertEqual(*(one for one in host.requests if one.startswith(b"POST")))
 
-    def test_nothing_changes_until_the_answer(self) -> None:
+    def test_nothing_changes_until_the_answer(self):
         go = queue.SimpleQueue[bool]()
 
         def lie(request: bytes) -> Iterable[bytes]:
@@ -523,7 +523,7 @@ class Answers(BoxPageTest):
         for secret in (LINKS["ada"], OWNS["ada"], "1,2,3,4"):
             self.assertNotIn(secret.encode(), request)
 
-    def test_the_button_and_when_a_ballot_arrived_in_each_language(self) -> None:
+    def test_the_button_and_when_a_ballot_arrived_in_each_language(self):
         """The button has a row of its own at each width. The time is by the clock of whoever sent
         it; whether it came after the end that the page knows is by the clock of the host, in whole
         seconds: a page may be left open, and the vote be extended.
@@ -559,7 +559,7 @@ class Answers(BoxPageTest):
             self.assertEqual(self.sent(), said)
             self.assertFalse(self.state()["button"])
 
-    def test_no_page_without_a_box_has_anything_of_it(self) -> None:
+    def test_no_page_without_a_box_has_anything_of_it(self):
         parts = "fetch(", "connect-src", "XMLHttpRequest", "sendBeacon", "vote.php"
         for kind, data in KINDS.items():
             page = dict(call_files(data))["index.html"].decode()

@@ -127,14 +127,14 @@ class PageTest(unittest.TestCase):
     maxDiff = None
 
     @classmethod
-    def setUpClass(cls) -> None:
+    def setUpClass(cls):
         room = tempfile.TemporaryDirectory(prefix="debvote-call-")
         cls.scratch = pathlib.Path(cls.enterClassContext(room))
         cls.window = cls.enterClassContext(Window(360, 640))
         cls.ask = cls.window.ask
         cls.numbers = itertools.count(1)
 
-    def tearDown(self) -> None:
+    def tearDown(self):
         self.window.show()
         self.window.resize(360, 640)
 
@@ -154,13 +154,13 @@ class PageTest(unittest.TestCase):
     def open_poll(self, poll: SealedPoll, place: str = "", **more: object) -> pathlib.Path:
         return self.open(replace(CALL, questions=alone(poll), **more), place)
 
-    def open_without_script(self, data: CallData) -> None:
+    def open_without_script(self, data: CallData):
         """A script that was changed does not run."""
         page = dict(call_files(data))["index.html"]
         self.open(data, page=page.replace(b'"use strict";', b'"use strict"; '))
         self.assertIn("Content Security Policy", " ".join(self.window.faults))
 
-    def sees(self, script: str, wanted: object, why: object = None) -> None:
+    def sees(self, script: str, wanted: object, why: object = None):
         self.assertEqual(self.ask(script), wanted, why)
 
     def ballot(self, name: str | None, ranks: str | list[str], **wanted: object) -> dict:
@@ -169,7 +169,7 @@ class PageTest(unittest.TestCase):
         self.assertEqual({key: found[key] for key in wanted}, wanted, (name, ranks))
         return found
 
-    def assert_seen(self, parts: tuple[str, ...], *unseen: str) -> None:
+    def assert_seen(self, parts: tuple[str, ...], *unseen: str):
         seen = self.ask("document.body.innerText")
         self.assertEqual([part for part in (*parts, *unseen) if part in seen], [*parts])
 
@@ -179,7 +179,7 @@ class PageTest(unittest.TestCase):
         self.window.until(f"{text_of('Copied')} !== ''")
         return list(self.ask(f"[window.clip, {text_of('Copied')}, String(getSelection())]"))
 
-    def assert_copied(self, line: str) -> None:
+    def assert_copied(self, line: str):
         """The line is copied, or selected where the browser refuses."""
         self.assertEqual(self.copied(TAKES)[:2], [line, "The line is copied."])
         _, said, selected = self.copied(REFUSES)
@@ -195,7 +195,7 @@ class PageTest(unittest.TestCase):
 
 
 class Lines(PageTest):
-    def test_each_line_is_read_as_what_was_chosen(self) -> None:
+    def test_each_line_is_read_as_what_was_chosen(self):
         chance = random.Random(2026)
         # no elector's name has a capital letter
         facts = {"title": f"Vote: {HOSTILE_TITLE}", "head": HOSTILE_TITLE, "wide": 360}
@@ -230,7 +230,7 @@ class Lines(PageTest):
             found = self.ballot("e01", ["10"] * count + ["1"] * (32 - count), long=count == 6)
             self.assertEqual(len(found["line"]), 67 + count)
 
-    def test_no_line_before_name_and_rank(self) -> None:
+    def test_no_line_before_name_and_rank(self):
         odd = ["q b", "\u00e9va", "x_y", "\u212aate", "q,b", "x" * 33]
         self.open(CALL, f"#ada/{OWN}")
         for name in (*odd, "", "   "):
@@ -241,7 +241,7 @@ class Lines(PageTest):
             self.assertEqual("is not on the roll of this poll" in found["said"], name in odd)
         self.ballot("ada", "----", line="", missing="Give at least one option a rank.", words="")
 
-    def test_what_a_browser_fills_in_again_and_words(self) -> None:
+    def test_what_a_browser_fills_in_again_and_words(self):
         self.open(CALL)
         self.ask(
             """document.getElementById("Name").value = "ada";
@@ -254,14 +254,14 @@ class Lines(PageTest):
         self.open(KINDS["signed"])
         self.ballot("ada", "1234", body=f"ada 1,2,3,4\r\n[{CALL.questions.mark}]\r\n")
 
-    def test_after_the_end_it_says_so_and_still_makes_the_line(self) -> None:
+    def test_after_the_end_it_says_so_and_still_makes_the_line(self):
         past = datetime.datetime(2020, 1, 1, tzinfo=datetime.UTC)
         for until, is_over in ((None, None), (past, True), (past.replace(year=9999), False)):
             self.open(replace(CALL, until=until))
             self.ballot("ada", "21-3", line="ada 2,1,-,3")
             self.sees("document.getElementById('Over')?.checkVisibility()", is_over)
 
-    def test_no_name_is_typed_into_the_page_of_a_secret_vote(self) -> None:
+    def test_no_name_is_typed_into_the_page_of_a_secret_vote(self):
         """Whoever can change the page would learn it. The line has a gap in its place, to be filled
         in the letter.
         """
@@ -288,7 +288,7 @@ def call_of(questions: Questions = THREE, data: CallData = CALL) -> CallData:
 class Several(PageTest):
     """The page of an election of several questions."""
 
-    def test_the_ballot_has_what_is_answered(self) -> None:
+    def test_the_ballot_has_what_is_answered(self):
         answers, options = {"A": "12", "B": "21-3", "C": "11"}, {"A": 2, "B": 4, "C": 2}
         said = {"A": "1 {1}, 2 {2}", "B": "1 {2}, 2 {1}, 3 {4}, \u2013 {3}", "C": "1 {1}, 1 {2}"}
         folder = self.open(call_of(), f"#ada/{OWN}")
@@ -323,14 +323,14 @@ class Several(PageTest):
         self.sees(text_of("Copied"), "")
         self.ballot("", "----2111", missing="Type your name.", answered="2 of 3 answered; not A")
 
-    def test_signed_and_secret(self) -> None:
+    def test_signed_and_secret(self):
         self.open(call_of(data=KINDS["signed"]))
         self.ballot("ada", "12----11", body=f"ada\r\nA 1,2\r\nC 1,1\r\n[{THREE.mark}]\r\n")
         secret = {label: replace(poll, secret=True) for label, poll in THREE.items()}
         self.open(call_of(Questions(secret, THREE.title), SECRET))
         self.ballot(None, "12----11", line="NAME A 1,2 C 1,1")
 
-    def test_a_motion_among_them_has_three_buttons(self) -> None:
+    def test_a_motion_among_them_has_three_buttons(self):
         motion = replace(FEE, motion=True)
         self.open(call_of(Questions({"A": motion, "B": POLL, "C": motion}, THREE.title)))
         self.sees(
@@ -358,7 +358,7 @@ class Several(PageTest):
                 [words, shown],
             )
 
-    def test_a_long_link_is_not_offered(self) -> None:
+    def test_a_long_link_is_not_offered(self):
         many = Questions(dict.fromkeys(LABELS, poll_of(20, 9)), "Assembly 2026")
         self.open(call_of(many), f"#e01/{OWN}")
         ranks = [str(rank) for rank in range(1, 21)]
@@ -382,7 +382,7 @@ class Several(PageTest):
             "getComputedStyle(document.getElementById('Bottom')).position === 'static'"
         )
 
-    def test_several_without_script_and_on_paper(self) -> None:
+    def test_several_without_script_and_on_paper(self):
         shown = (
             "Assembly & 2026",
             "Question A: Raise the fee",
@@ -410,7 +410,7 @@ class Several(PageTest):
 
 
 class Names(PageTest):
-    def test_names_on_the_roll_are_offered_and_what_is_typed_is_folded(self) -> None:
+    def test_names_on_the_roll_are_offered_and_what_is_typed_is_folded(self):
         code = "0123456789abcdef" * 2
         annas = ["anna-1", "anna-2", "anna-3"]
         roll = "zoe ada-angstrom ada.lovelace strasse oedipus - eve-arnold ben-lee ben-lee-2 iolddthae-iht"
@@ -467,7 +467,7 @@ class Names(PageTest):
             said = self.ballot(typed, "1234", line=line, suggested=[])["said"]
             self.assertEqual("Names on the roll have only small letters" in said, not is_name)
 
-    def test_a_family_name_suggests_all_who_have_it_and_their_real_names_do_too(self) -> None:
+    def test_a_family_name_suggests_all_who_have_it_and_their_real_names_do_too(self):
         meiers = [f"{given}-meier" for given in "ada ben cleo dan eve fay gus hal ida jon".split()]
         # of more than eight beginnings none is suggested, of a whole family name fifty are
         of_begin = {sign: [f"{sign}{number}" for number in range(8)] for sign in "qr"}
@@ -503,7 +503,7 @@ class Names(PageTest):
         said = "eve is not on the roll of this poll; the names on the roll are below."
         self.ballot("eve", "1234", line="", said=said)
 
-    def test_the_personal_link(self) -> None:
+    def test_the_personal_link(self):
         # by the place: the name that is filled in, and the own mark in the subject
         places = dict.fromkeys(["ada", f"ada/{OWN}x", "ada/0123456789"], ("ada", ""))
         places |= dict.fromkeys([f"ADA/{OWN.upper()}", f"%61da%2F{OWN}"], ("ada", OWN))
@@ -536,15 +536,15 @@ class Names(PageTest):
         self.open(SECRET, f"#ada/{OWN}")
         self.ballot(None, "21-3", line="NAME 2,1,-,3")
 
-    def check_letter(self, typed: str | None, name: str, own: str) -> None:
+    def check_letter(self, typed: str | None, name: str, own: str):
         """The line with this name, in a letter with this own mark; without one there is no letter,
         and without a name no line.
         """
         subject = f"Ballot: Where we meet [{CALL.questions.mark}-{own}]" if own else None
         self.ballot(typed, "21-3", line=f"{name} 2,1,-,3" if name else "", subject=subject)
 
-    def test_what_is_said_without_the_own_mark(self) -> None:
-        def check(name: str | None, line: str, is_letter: bool, count: int) -> None:
+    def test_what_is_said_without_the_own_mark(self):
+        def check(name: str | None, line: str, is_letter: bool, count: int):
             found = self.ballot(name, "21-3", line=f"{line} 2,1,-,3")
             self.assertEqual(bool(found["letter"]), is_letter)
             hints = "[...document.querySelectorAll('.unmarked')].filter((node) => node.checkVisibility()).length"
@@ -566,7 +566,7 @@ TEXTS = ("A long text. " * 40, "", "Short.")
 
 
 class Looks(PageTest):
-    def test_widths_and_contrast(self) -> None:
+    def test_widths_and_contrast(self):
         """Of one question, and of several."""
         shown = ("\u05d0\u05d1 " * 60, "Donaudampfschifffahrt" * 9, "72 \u20ac", "{name} $& $1")
         long = replace(POLL, shown_options=shown, shown_title="Donaudampfschifffahrt" * 9)
@@ -595,7 +595,7 @@ class Looks(PageTest):
             self.ballot("ada", [*"124321", *[rank] * 32], long=rank == "10")
         self.assertEqual((len(colours), len({colour for _, colour in colours})), (2, 2))
 
-    def test_ranks_stand_beside_the_option_where_there_is_room(self) -> None:
+    def test_ranks_stand_beside_the_option_where_there_is_room(self):
         """`last` stands below the hyphen, and no number of an option is alone on a line."""
         beside = """[...document.querySelectorAll(".option")].map((option) => option.querySelector(".rank").getBoundingClientRect().left
           > option.querySelector(".name").getBoundingClientRect().right)"""
@@ -606,7 +606,7 @@ class Looks(PageTest):
             self.window.resize(width, 640)
             self.sees(f"[{beside}, {last}, {LONE_NUMBERS}]", [[are_beside] * 4, True, []], width)
 
-    def test_long_texts_are_cut_and_read_at_a_touch(self) -> None:
+    def test_long_texts_are_cut_and_read_at_a_touch(self):
         """And leave room for the ranks on a telephone, in each language."""
         # the ranks end above the line and the buttons, which are in the window, and a finger finds
         # each
@@ -630,7 +630,7 @@ class Looks(PageTest):
         self.ask(f"{buttons}[0].click()")
         self.sees(f"[{shown}, {buttons}.length]", [[True, True], 0])
 
-    def test_without_script_and_on_paper(self) -> None:
+    def test_without_script_and_on_paper(self):
         poll = replace(POLL, explanations=TEXTS)
         texts, unseen = ("At the lake", TEXTS[0].strip()), (
             "Send by e-mail",
@@ -659,7 +659,7 @@ class ByKeys(PageTest):
             self.assertNotEqual(way[-1]["kind"], "BODY", f"Tab does not come to {name}: {way}")
         return way
 
-    def test_a_ballot_is_made_and_its_line_is_taken(self) -> None:
+    def test_a_ballot_is_made_and_its_line_is_taken(self):
         self.open(KINDS["signed"])
         self.tab_to("Name")
         self.window.type("\u00c0d\u00e0")
@@ -684,7 +684,7 @@ class ByKeys(PageTest):
             self.window.press(key)
             self.window.until("String(getSelection()) === 'ada 2,1,-,3'")
 
-    def test_a_rank_is_chosen_by_arrows_and_changed(self) -> None:
+    def test_a_rank_is_chosen_by_arrows_and_changed(self):
         self.open(CALL)
         self.tab_to("Name")
         self.window.type("ada")
@@ -700,7 +700,7 @@ class ByKeys(PageTest):
         way = {place["name"] for place in self.tab_to("What each option needs")}
         self.assertEqual(way & {"Copy", "Letter"}, set())
 
-    def test_tab_comes_to_all_in_order_and_the_focus_is_seen(self) -> None:
+    def test_tab_comes_to_all_in_order_and_the_focus_is_seen(self):
         """Of one question, light and dark, and of several; none is below the ballot."""
         of_three = [
             f"Rank-{label}{number}"

@@ -8,7 +8,7 @@ from tests.support.web_host import NEEDS_PHP
 @NEEDS_PHP
 @NEEDS_FIREFOX
 class InFirefox(boxes.BoxElectionTest):
-    def test_a_click(self) -> None:
+    def test_a_click(self):
         """Keys and buttons of a second engine, whose cryptography is its own."""
         place = self.place_of("ada", self.begun()["ada"])
         with Window(390, 844) as window:

@@ -34,7 +34,7 @@ OUTCOMES = {
 
 @at_browser.NEEDS_BROWSER
 class InBrowser(languages.LanguageTest):
-    def check_language(self, code: str) -> None:
+    def check_language(self, code: str):
         self.language = language_of(code)
         self.window = self.enterContext(at_browser.Window(*TELEPHONE))
         for name in ("open", "secret"):
@@ -52,10 +52,10 @@ class InBrowser(languages.LanguageTest):
             self.check_telephone(name)
         self.check_outcomes(code)
 
-    def says(self, found: object, sentences: dict[str, str], key: str, **places: object) -> None:
+    def says(self, found: object, sentences: dict[str, str], key: str, **places: object):
         self.assertEqual(found, self.language.say(sentences[key], **places))
 
-    def check_widths(self, file: pathlib.Path) -> None:
+    def check_widths(self, file: pathlib.Path):
         """No page is wider than the window, with all that is folded opened; what may be wider
         scrolls by itself.
         """
@@ -70,7 +70,7 @@ class InBrowser(languages.LanguageTest):
             )
             self.assertEqual(found, [size[0], self.language.code], file)
 
-    def check_first_screen(self, name: str) -> None:
+    def check_first_screen(self, name: str):
         """On a small telephone the winner, the facts and the first other option are there, and no
         line is without a word.
         """
@@ -79,7 +79,7 @@ class InBrowser(languages.LanguageTest):
         lone, broken = self.window.ask(at_browser.LONE_LINES), self.window.broken_words(NAMES)
         self.assertEqual((lone, broken), ([], []), name)
 
-    def check_telephone(self, name: str) -> None:
+    def check_telephone(self, name: str):
         """Also with doubts. Who has won, one's own ballot, the bars and the reasons are on three
         screens.
         """
@@ -97,7 +97,7 @@ class InBrowser(languages.LanguageTest):
         )
         self.assertLessEqual(self.window.ask(end), 3 * TELEPHONE[1], name)
 
-    def check_outcomes(self, code: str) -> None:
+    def check_outcomes(self, code: str):
         """In a tie, by a casting vote, where a defeat was set aside and where the default option
         has won the first screen is as full, and the count in the browser finds the page right.
         """
@@ -116,7 +116,7 @@ class InBrowser(languages.LanguageTest):
             same = self.language.say(COUNT_AGAIN["page_same"], ballots=len(ranks))
             self.assertIn(same, self.window.count_again())
 
-    def check_picture(self, name: str, round_: str) -> None:
+    def check_picture(self, name: str, round_: str):
         """It says in the language why an option was dropped, and numbers stand apart from names."""
         texts = {*self.window.ask(PICTURE_TEXTS)}
         self.assertIn(f"1{self.language.between('{before}: {after}')}At the lake", texts)
@@ -124,7 +124,7 @@ class InBrowser(languages.LanguageTest):
         self.assertEqual(self.language.say("no majority") in texts, name == "default", name)
         self.assertEqual(f"5 : 4, {round_} 1" in texts, name == "circle", name)
 
-    def check_call(self, file: pathlib.Path) -> None:
+    def check_call(self, file: pathlib.Path):
         """Of an address whose place is named once it is open."""
         window, words = self.window, CALL_SENTENCES
         window.open(file)
@@ -143,7 +143,7 @@ class InBrowser(languages.LanguageTest):
         said = window.ask("document.getElementById('Copied').textContent")
         self.assertIn(said, [self.language.say(words[key]) for key in ("copied", "selected")])
 
-    def check_count(self, folder: pathlib.Path) -> None:
+    def check_count(self, folder: pathlib.Path):
         *rows, last = self.window.count_again()
         sheet, standing = (
             (folder / name).read_text().splitlines() for name in ("sheet.txt", "standing.txt")
@@ -158,7 +158,7 @@ class InBrowser(languages.LanguageTest):
         differs = self.language.say(COUNT_AGAIN["page_differs"], where=where)
         self.assertIn(differs, " ".join(self.window.count_again()))
 
-    def check_find(self, file: pathlib.Path) -> None:
+    def check_find(self, file: pathlib.Path):
         """What came from e05 was entered after the close."""
         find, uncounted = self.window.find, self.language.say("Refused and late lines")
         if not file.exists():

@@ -33,7 +33,7 @@ SHOWN = f"""({{ line: {text_of("Line")}, missing: {text_of("Missing")}, words: d
 
 
 class Form(PageTest):
-    def test_three_buttons_make_ranks(self) -> None:
+    def test_three_buttons_make_ranks(self):
         empty = {"line": "", "words": "", "letter": None, "wide": 360}
         for language in LANGUAGES:
             words = [word.capitalize() for word in WORDS[language]]
@@ -52,7 +52,7 @@ class Form(PageTest):
                 self.assertEqual(found, wanted)
             self.assertEqual(self.window.faults, [])
 
-    def test_by_keys(self) -> None:
+    def test_by_keys(self):
         self.open(CALL, "#ada")
         for _ in range(12):
             self.window.press("Tab")
@@ -62,7 +62,7 @@ class Form(PageTest):
             self.window.press(key)
             self.sees(text_of("Line"), f"ada {ranks}")
 
-    def test_on_paper_and_without_a_script(self) -> None:
+    def test_on_paper_and_without_a_script(self):
         page = call_page(CALL)
         bare = re.sub(rb"<script>.*?</script>", b"", page, flags=re.DOTALL)
         self.assertNotEqual(bare, page)
@@ -77,7 +77,7 @@ class Form(PageTest):
             boxes = "[...document.querySelectorAll('.option')].map((node) => getComputedStyle(node, '::after').content)"
             self.sees(boxes, ["none"] * 2)
 
-    def test_other_polls_have_no_such_buttons(self) -> None:
+    def test_other_polls_have_no_such_buttons(self):
         other = replace(CALL, questions=Questions({"": replace(POLL, motion=False)}))
         self.assertNotIn(b'name="Answer"', call_page(other))
         self.assertNotIn(b'name="Rank-', call_page(CALL))
@@ -99,7 +99,7 @@ class Result(ResultPageTest):
         how = {"questions": Questions({"": poll}), "language": language_of(language)}
         return self.published(room, f"{language}-made", **how)
 
-    def test_answers_in_words(self) -> None:
+    def test_answers_in_words(self):
         """As the script finds them, which counts again in each language; where a name begins with
         the answer, it stands for it.
         """

@@ -104,10 +104,10 @@ def sent_under_node(line: str, place: str, options: int, presses: int = 1) -> by
 
 @unittest.skipUnless(NODE, "nodejs is not installed")
 class Node(unittest.TestCase):
-    def test_the_vector(self) -> None:
+    def test_the_vector(self):
         self.assertEqual(sent_under_node(LINE, PLACE, 4), BODY)
 
-    def test_the_longest_ballot_is_as_long_as_the_shortest(self) -> None:
+    def test_the_longest_ballot_is_as_long_as_the_shortest(self):
         """Of one question and of as many as there can be; and the host takes it."""
         for options, questions in ((2, 1), (10, 1), (32, 1), (2, 2), (32, len(LABELS))):
             lengths, several = set[int](), LABELS[:questions] if questions > 1 else ""
@@ -126,7 +126,7 @@ class Node(unittest.TestCase):
 @NEEDS_RULES
 @unittest.skipUnless(NODE, "nodejs is not installed")
 class Rules(BoxTest):
-    def test_a_firewall_refuses_no_ballot_and_no_asking(self) -> None:
+    def test_a_firewall_refuses_no_ballot_and_no_asking(self):
         bodies = sent_under_node("ada 1,2,3,4", place_of("ada"), 4, 500).split(b"box=")[1:]
         browser = {"User_Agent": "Mozilla/5.0", "Accept": "*/*", "Content_Type": KIND}
         host = self.host()
@@ -139,7 +139,7 @@ class Rules(BoxTest):
 
 
 class Browser(BoxPageTest):
-    def test_the_vector(self) -> None:
+    def test_the_vector(self):
         page = page_with_box().decode()
         for what, before in {"mark": MARK, "page": CALL.page, "seal": CALL.public_key}.items():
             self.assertEqual(page.count(f'data-{what}="{before}"'), 1, what)
@@ -158,7 +158,7 @@ class Browser(BoxPageTest):
 
 
 class Fails(RealBoxTest):
-    def test_a_browser_that_fails_at_any_call(self) -> None:
+    def test_a_browser_that_fails_at_any_call(self):
         """Later or at once: nothing was sent, and the form is free."""
         count = """(() => { window.calls = [];
           for (const name of Object.getOwnPropertyNames(SubtleCrypto.prototype)) if (name !== "constructor") {
@@ -195,7 +195,7 @@ class Fails(RealBoxTest):
 class Elsewhere(RealBoxTest):
     """A page that is not where it belongs."""
 
-    def test_under_a_worker_at_the_root_of_its_host(self) -> None:
+    def test_under_a_worker_at_the_root_of_its_host(self):
         """The page is in a folder of a web site that has a worker, which sees each page below
         it.
         """
@@ -219,7 +219,7 @@ class Elsewhere(RealBoxTest):
         self.assert_state(line="ada 1,2,3,4", worked=True)
         self.assertFalse(any(request.startswith("POST") for request in self.host.requests()))
 
-    def in_another_tab(self, url: str, script: str) -> None:
+    def in_another_tab(self, url: str, script: str):
         """Opens a page beside this one, and runs a script in it."""
         window, own = self.window, self.window.session
         window.session = None
@@ -233,7 +233,7 @@ class Elsewhere(RealBoxTest):
         window.tell("Target.closeTarget", targetId=target)
         window.session = own
 
-    def test_a_page_of_another_book_with_this_poll(self) -> None:
+    def test_a_page_of_another_book_with_this_poll(self):
         """A rehearsal, whose page a browser kept, or that was uploaded: its ballots could never be
         opened.
         """
@@ -250,7 +250,7 @@ class Elsewhere(RealBoxTest):
             self.assert_state(said=said, line="ada 1,2,3,4", seen=True, button=True)
         self.assertEqual([*self.folder.glob("box-*")], [])
 
-    def test_a_copy_of_the_page_of_a_secret_vote_from_the_disk(self) -> None:
+    def test_a_copy_of_the_page_of_a_secret_vote_from_the_disk(self):
         """There is nothing to press, and the page says which link to open."""
         call = replace(SECRET, until=CALL.until, box_key=KEY)
         (self.folder / "index.html").write_bytes(page_with_box(call=call))

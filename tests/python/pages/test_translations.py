@@ -22,7 +22,7 @@ NOT_IN_THE_GLOSSARY = {"de": "eingetragen", "fr": "enregistr", "es": r"\brangos?
 
 
 class Translations(languages.LanguageTest):
-    def setUp(self) -> None:
+    def setUp(self):
         super().setUp()
         self.said = sentences.in_code()
         self.entries = {
@@ -32,7 +32,7 @@ class Translations(languages.LanguageTest):
             for code in languages.LANGUAGES
         }
 
-    def test_each_language_has_its_file_with_each_sentence_and_no_other(self) -> None:
+    def test_each_language_has_its_file_with_each_sentence_and_no_other(self):
         self.assertEqual(sorted(LANGUAGES), sorted(["en", *languages.LANGUAGES]))
         files = [file.stem for file in sentences.LOCALE.glob("*.po")]
         self.assertEqual(sorted(files), sorted(languages.LANGUAGES))
@@ -44,7 +44,7 @@ class Translations(languages.LanguageTest):
                 found = all(entry.forms), entry.is_fuzzy, entry.is_obsolete
                 self.assertEqual(found, (True, False, False), (code, entry.texts))
 
-    def test_each_translation_has_the_places_the_tags_and_the_end_of_its_sentence(self) -> None:
+    def test_each_translation_has_the_places_the_tags_and_the_end_of_its_sentence(self):
         ends = re.compile(r"([.:?])(?:</\w+>)?$")
         for code, entries in self.entries.items():
             for entry in entries[1:]:
@@ -61,7 +61,7 @@ class Translations(languages.LanguageTest):
                         # it may come to stand in an attribute
                         self.assertNotIn('"', TAG.sub("", form))
 
-    def test_what_puts_parts_behind_each_other_has_its_places_at_its_ends(self) -> None:
+    def test_what_puts_parts_behind_each_other_has_its_places_at_its_ends(self):
         for code, text in itertools.product(
             languages.LANGUAGES,
             (
@@ -75,7 +75,7 @@ class Translations(languages.LanguageTest):
             first, second = map(re.escape, re.findall(r"\{\w+\}", text))
             self.assertRegex(language_of(code).catalog.gettext(text), f"^{first}.*{second}$", code)
 
-    def test_one_word_stands_for_one_thing(self) -> None:
+    def test_one_word_stands_for_one_thing(self):
         """A letter told electors to write `rangos`, and two lines below words in place of the
         `puestos`.
         """
@@ -83,14 +83,14 @@ class Translations(languages.LanguageTest):
             forms = [form for entry in self.entries[code] for form in entry.forms]
             self.assertEqual([form for form in forms if re.search(word, form)], [])
 
-    def test_french_signs_stand_behind_a_space_that_does_not_break(self) -> None:
+    def test_french_signs_stand_behind_a_space_that_does_not_break(self):
         wrong = r"[^\u00a0:/][;?!\u00bb]|\u00ab[^\u00a0]| :|\w: "
         for entry in self.entries["fr"][1:]:
             for form in entry.forms:
                 self.assertNotRegex(TAG.sub("", form).replace("https:", ""), wrong)
 
     @unittest.skipUnless(MSGFMT, "msgfmt is not installed")
-    def test_msgfmt_takes_each_file_and_makes_of_it_what_is_read_here(self) -> None:
+    def test_msgfmt_takes_each_file_and_makes_of_it_what_is_read_here(self):
         for code in languages.LANGUAGES:
             made, file = self.scratch / f"{code}.mo", sentences.LOCALE / f"{code}.po"
             words = [MSGFMT, "--check", "-o", made, file]
@@ -103,7 +103,7 @@ class Translations(languages.LanguageTest):
             for number in range(200):
                 self.assertEqual(by_msgfmt.plural(number), here.plural(number))
 
-    def test_numbers_and_places(self) -> None:
+    def test_numbers_and_places(self):
         german = language_of("de")
         files = [german.say_number("{number} file", "{number} files", count) for count in (1, 3)]
         self.assertEqual(files, ["1 Datei", "3 Dateien"])

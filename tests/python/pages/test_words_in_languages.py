@@ -73,7 +73,7 @@ def words_of(said: str) -> str:
 
 class Marked(languages.LanguageTest):
     @classmethod
-    def setUpClass(cls) -> None:
+    def setUpClass(cls):
         super().setUpClass()
         cls.enterClassContext(languages.marked_german())
 
@@ -83,7 +83,7 @@ class Marked(languages.LanguageTest):
         self.assertNotIn(BEGIN, said)
         return said
 
-    def check(self, text: str, name: str) -> None:
+    def check(self, text: str, name: str):
         is_page = name.endswith(".html")
         with self.subTest(name):
             self.assertIn(BEGIN, text)
@@ -97,7 +97,7 @@ class Marked(languages.LanguageTest):
             self.check(text, f"{place.name}/{name}")
         return texts[0]
 
-    def check_messages(self, place: pathlib.Path, *kinds: str) -> None:
+    def check_messages(self, place: pathlib.Path, *kinds: str):
         """The messages that go out, each with its subject."""
         files = sorted(place.glob("letters/*/*/*.eml"))
         self.assertEqual({file.parent.parent.name for file in files}, set(kinds))
@@ -107,14 +107,14 @@ class Marked(languages.LanguageTest):
             assert body is not None
             self.check(f"{message['Subject']}\n{body.get_content()}", str(file))
 
-    def test_the_test_finds_a_word(self) -> None:
+    def test_the_test_finds_a_word(self):
         what = f"{BEGIN}What{END_MARK} 12"
         self.assertEqual(unmarked(f"{what} At the lake, e01 {BEGIN}.{END_MARK}"), [])
         self.assertEqual(unmarked(f"{what} lines"), ["lines"])
         self.assertEqual(unsaid('<title></title><p aria-label="Bars"><code>x</code></p>'), ["Bars"])
         self.assertEqual(unsaid(f"<title>{what}</title><p>has <b>1</b></p>"), ["has"])
 
-    def test_from_the_beginning_to_the_end(self) -> None:
+    def test_from_the_beginning_to_the_end(self):
         letters = (f"letters/{name}.txt" for name in ("extension", "closed", "result"))
         files = ["call/index.html", "call/call.txt", *letters]
         for name, more in (("open", ()), ("secret", ("private/slips.html",))):
@@ -122,7 +122,7 @@ class Marked(languages.LanguageTest):
             self.check_files(place, *files, "result/index.html", "result/closed.txt", *more)
             self.check_messages(place, "call", "receipts", "reminders", "closed", "result")
 
-    def test_other_calls(self) -> None:
+    def test_other_calls(self):
         """With codes on the roll, one that says little, and one whose letters are printed."""
         files = ("call/index.html", "call/call.txt")
         place = self.called("codes", "de", codes=("--on-roll",))
@@ -136,12 +136,12 @@ class Marked(languages.LanguageTest):
         (page,) = place.rglob("letters/*/*/*.html")
         self.assertIn(BEGIN, page.read_text(encoding="utf-8"))
 
-    def change_members(self, place: pathlib.Path, before: str, after: str) -> None:
+    def change_members(self, place: pathlib.Path, before: str, after: str):
         members = place / "members.csv"
         members.write_text(members.read_text().replace(before, after))
         self.election(place.name, "roll", "--yes")
 
-    def test_what_debvote_publish_makes_of_two_files(self) -> None:
+    def test_what_debvote_publish_makes_of_two_files(self):
         poll = POLL + f"roll = {json.dumps(languages.ELECTORS)}\n"
         equal = poll.replace("[1, 1, 3]", "[1, 1, 1]").replace("quorum = 1", "quorum = 0")
         options = json.dumps([str(number) for number in range(1, 15)])
@@ -169,7 +169,7 @@ class Marked(languages.LanguageTest):
             self.program("debvote-publish", *files, *words, name, status=status)
             self.check_files(self.scratch / name, "index.html", "letter.txt")
 
-    def test_casting_votes(self) -> None:
+    def test_casting_votes(self):
         poll = POLL.replace("[1, 1, 3]", "[1, 1, 1]").replace("quorum = 1", "quorum = 0")
         place = self.begun("cast", "de", poll=poll)
         self.election("cast", "call", "--to", languages.TO, "--at", languages.AT)
@@ -185,7 +185,7 @@ class Marked(languages.LanguageTest):
         self.assertIn('class="doubts"', page)
         self.check_messages(place, "closed", "result")
 
-    def test_doubts(self) -> None:
+    def test_doubts(self):
         bad = "e01 1,2,3,4\n" + "bad\n" * 3
         for name, codes, ballots in (
             ("refused", None, bad),
@@ -203,7 +203,7 @@ class Marked(languages.LanguageTest):
                 self.election(name, "letters", "result")
                 self.check_messages(place, "closed", "result")
 
-    def test_what_was_done(self) -> None:
+    def test_what_was_done(self):
         place, because = self.called("done", "de"), ("--because", languages.REASON)
         self.election("done", "call", "--take-back", *because)
         self.election("done", "call", "--to", languages.TO)

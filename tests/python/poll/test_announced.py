@@ -15,14 +15,14 @@ EXAMPLE = 'write it as "2026-12-04 18:00", as "2026-12-04 18:00\\+01:00" or in a
 
 
 class Until(unittest.TestCase):
-    def in_zone(self, name: str) -> None:
+    def in_zone(self, name: str):
         """From now on this computer is in a zone, until the test ends."""
         # what is added first is called last: the zone is read again once it is that of before
         self.addCleanup(time.tzset)
         self.enterContext(unittest.mock.patch.dict(os.environ, {"TZ": name}))
         time.tzset()
 
-    def assert_refused(self, text: str, zone: str | None, said: str) -> None:
+    def assert_refused(self, text: str, zone: str | None, said: str):
         with self.subTest(text=text, zone=zone), self.assertRaisesRegex(Fault, said) as caught:
             parse_until(text, zone)
         self.assertEqual(
@@ -30,7 +30,7 @@ class Until(unittest.TestCase):
             (Status.BAD_WORDS, "nothing was changed"),
         )
 
-    def test_forms(self) -> None:
+    def test_forms(self):
         """And the zone of the end before, in which a later one is if it names none."""
         for text, zone, earlier, here, *wanted in [
             ("2026-12-04 18:00+01:00", None, None, "UTC", "2026-12-04T18:00:00+01:00", "+01:00"),
@@ -99,7 +99,7 @@ class Until(unittest.TestCase):
                 time, named = parse_until(text, zone, earlier)
                 self.assertEqual([time.isoformat(), named], wanted)
 
-    def test_other_words(self) -> None:
+    def test_other_words(self):
         for text in (
             *(
                 "tomorrow",
@@ -135,7 +135,7 @@ class Until(unittest.TestCase):
             "2026-12-04 18:00+01:00", "Europe/Berlin", "--zone: the time has an offset already"
         )
 
-    def test_clocks_that_are_put_forward_or_back(self) -> None:
+    def test_clocks_that_are_put_forward_or_back(self):
         for zone, here, where in (
             ("Europe/Berlin", "UTC", "in Europe/Berlin"),
             (None, "Europe/Berlin", "where this computer is"),
@@ -156,7 +156,7 @@ class Until(unittest.TestCase):
         for again in ("2027-10-31 02:30+01:00", "2027-10-31 01:30+00:00"):
             self.assertEqual(parse_until(again, None)[0].astimezone(datetime.UTC).hour, 1)
 
-    def test_a_time_that_is_over(self) -> None:
+    def test_a_time_that_is_over(self):
         clock = datetime.datetime(2026, 11, 26, 10, 0, 30, tzinfo=datetime.UTC)
         for text in ("2026-11-26 11:00:30+01:00", "2026-11-26 11:00+01:00"):
             said = r"\(UTC\+01:00\) is past: by the clock of this computer it is Thursday, 26 November 2026, 11:00 \(UTC\+01:00\); nothing was"
@@ -166,7 +166,7 @@ class Until(unittest.TestCase):
 
 
 class InWords(unittest.TestCase):
-    def test_in_each_language(self) -> None:
+    def test_in_each_language(self):
         first = datetime.datetime(2027, 1, 1, 8, 5, 0, tzinfo=datetime.UTC)
         later = datetime.datetime(
             2026,
@@ -207,6 +207,6 @@ class InWords(unittest.TestCase):
             time_in_words(later.replace(hour=23)), "Friday, 4 December 2026, 23:00:30 (UTC-03:30)"
         )
 
-    def test_now_is_in_whole_seconds(self) -> None:
+    def test_now_is_in_whole_seconds(self):
         self.assertEqual((now().microsecond, now().utcoffset()), (0, datetime.timedelta(0)))
         self.assertLess(abs(now().timestamp() - time.time()), 5)

@@ -18,7 +18,7 @@ OPTION = re.compile(r"[!-~]([ -~]{0,38}[!-~])?")
 
 
 class Options(unittest.TestCase):
-    def test_what_is_made_of_them(self) -> None:
+    def test_what_is_made_of_them(self):
         for language, names, wanted in [
             # what is plain stays
             *(
@@ -64,7 +64,7 @@ class Options(unittest.TestCase):
         ]:
             self.assertEqual(plain_options(names, language), wanted)
 
-    def test_capitals(self) -> None:
+    def test_capitals(self):
         names = ["ÄRZTE", "Ärzte", "GRÖ", "Ö", "GROẞ", "ŁÓDŹ", "ÆON", "Æon", "Œuvre", "Þing", "Øl"]
         wanted = [
             "AERZTE",
@@ -81,7 +81,7 @@ class Options(unittest.TestCase):
         ]
         self.assertEqual([plain_options([name], "de")[0] for name in names], wanted)
 
-    def test_they_are_always_what_debvote_takes(self) -> None:
+    def test_they_are_always_what_debvote_takes(self):
         odd = [
             "é" * 60,
             "ß" * 30,
@@ -104,7 +104,7 @@ class Options(unittest.TestCase):
             ([], len(found)),
         )
 
-    def test_titles(self) -> None:
+    def test_titles(self):
         titles = {
             "Where we meet": "Where we meet",
             "Wahl des Präsidiums": "Wahl des Praesidiums",
@@ -123,7 +123,7 @@ class Options(unittest.TestCase):
 
 
 class Electors(unittest.TestCase):
-    def test_accents_capitals_and_what_is_not_allowed(self) -> None:
+    def test_accents_capitals_and_what_is_not_allowed(self):
         for who, name in {
             "Zoë Müller": "zoe-muller",
             "ÅSA ÖSTERBERG": "asa-osterberg",
@@ -149,7 +149,7 @@ class Electors(unittest.TestCase):
             )
         self.assertEqual(elector_name("ZOË Müller-Groß", "de"), "zoe-mueller-gross")
 
-    def test_the_family_name_comes_last(self) -> None:
+    def test_the_family_name_comes_last(self):
         for who, name in {
             "Meier, Anna": "anna-meier",
             "Meier, Dr. Anna": "anna-meier",
@@ -161,7 +161,7 @@ class Electors(unittest.TestCase):
         }.items():
             self.assertEqual(elector_name(who, "en"), name, who)
 
-    def test_titles_are_left_out(self) -> None:
+    def test_titles_are_left_out(self):
         for title in (
             "Dr.",
             "Dr",
@@ -212,7 +212,7 @@ class Electors(unittest.TestCase):
         }.items():
             self.assertEqual(elector_name(who, "en"), name, who)
 
-    def test_similar_names(self) -> None:
+    def test_similar_names(self):
         for names, wanted in {
             "anna-meier anna-maier meier-anna": [
                 ("anna-meier", "anna-maier"),
@@ -225,11 +225,11 @@ class Electors(unittest.TestCase):
             self.assertEqual(list(similar_names(names.split())), wanted)
         self.assertEqual(list(similar_names(f"elector-{number}" for number in range(10_000))), [])
 
-    def test_what_a_roll_allows(self) -> None:
+    def test_what_a_roll_allows(self):
         names = ("a", "0.-", "a" * 32, "", "A", "a b", "ä", "a_b", "a" * 33, "a\n")
         self.assertEqual(tuple(filter(is_elector_name, names)), names[:3])
 
-    def test_numbers(self) -> None:
+    def test_numbers(self):
         self.assertEqual(made_different(["a", "a", "b"], ["a-1"], 32, "-"), ["a-2", "a-3", "b"])
         self.assertEqual(made_different(["a", "a"], ["a"], 32, "-"), ["a-2", "a-3"])
         self.assertEqual(
@@ -238,7 +238,7 @@ class Electors(unittest.TestCase):
 
 
 class Refused(unittest.TestCase):
-    def assert_bad(self, names: list[str], *wanted: tuple[int, str]) -> None:
+    def assert_bad(self, names: list[str], *wanted: tuple[int, str]):
         """Which options are refused, each with a part of the reason."""
         found = list(bad_options(names, plain_options(names, "de")))
         self.assertEqual(
@@ -248,7 +248,7 @@ class Refused(unittest.TestCase):
         for (_, _, why), (_, reason) in zip(found, wanted):
             self.assertIn(reason, why)
 
-    def test_names_that_look_alike(self) -> None:
+    def test_names_that_look_alike(self):
         pairs = [
             ("Am See", "am  SEE"),
             ("Café", "Cafe"),
@@ -262,7 +262,7 @@ class Refused(unittest.TestCase):
             ["Am See", "Am Fee", "かき", "がき", "राम", "रोम", "Über", "Ueber", "1", "2", "!", "?"]
         )
 
-    def test_of_two_equal_plain_names_debvote_speaks(self) -> None:
+    def test_of_two_equal_plain_names_debvote_speaks(self):
         self.assert_bad(["a", "a", ""])
         self.assert_bad(["a", "A"], (2, "looks like option 1"))
         # the plain name of another
@@ -271,7 +271,7 @@ class Refused(unittest.TestCase):
             ["Ü", "Ue", "Ue\u0301 2"], (3, "looks like the plain name of option 1, `Ü`")
         )
 
-    def test_characters_and_length(self) -> None:
+    def test_characters_and_length(self):
         for odd in ("\u202e", "\u2066", "\x1b", "\n", "\u2028", "\x7f", "\ue000", "\ufff9"):
             self.assert_bad(["x", f"a{odd}b"], (2, f"the character U+{ord(odd):04X}"))
             self.assertEqual(len(list(bad_title(f"a{odd}b"))), 1)

@@ -22,7 +22,7 @@ SEVERAL = Questions({"A": FEE, "B": POLL, "C": FEE}, "Assembly & 2026")
 
 
 class Value(unittest.TestCase):
-    def test_one_question_is_its_poll(self) -> None:
+    def test_one_question_is_its_poll(self):
         one = calls.alone(POLL)
         self.assertEqual(
             (one.name, one.checksum, one.mark, one.is_several),
@@ -32,7 +32,7 @@ class Value(unittest.TestCase):
             (one.files, one.checksums), ({"poll.toml": POLL.as_bytes()}, [POLL.checksum])
         )
 
-    def test_the_checksum_of_several_is_that_of_their_list(self) -> None:
+    def test_the_checksum_of_several_is_that_of_their_list(self):
         files = SEVERAL.files
         self.assertEqual(
             list(files), ["A/poll.toml", "B/poll.toml", "C/poll.toml", "title.txt", "polls.sha256"]
@@ -59,7 +59,7 @@ class Value(unittest.TestCase):
         ]
         self.assertEqual(len({one.mark for one in (SEVERAL, *others)}), 5)
 
-    def test_what_is_sealed_is_read_again(self) -> None:
+    def test_what_is_sealed_is_read_again(self):
         sealed = Sealed(SEVERAL, SEVERAL)
         self.assertEqual(list(sealed.files()), ["poll A", "poll B", "poll C", "title"])
         again = read_questions(
@@ -76,19 +76,19 @@ class Value(unittest.TestCase):
         )
         self.assertEqual(list(Sealed(calls.alone(POLL), calls.alone(POLL)).files()), ["poll"])
 
-    def test_labels(self) -> None:
+    def test_labels(self):
         self.assertEqual(LABELS, "".join(sorted({*"ABCDEFGHIJKLMNOPQRSTUVWXYZ"} - {"I", "O"})))
 
 
 class Words(unittest.TestCase):
-    def test_the_form_is_by_lines(self) -> None:
+    def test_the_form_is_by_lines(self):
         call = dataclasses.replace(CALL, questions=SEVERAL)
         self.assertEqual(
             [call.form_of("ada-lovelace"), CALL.form_of("ada-lovelace")],
             [["ada-lovelace", "A _,_", "B _,_,_,_", "C _,_"], ["ada-lovelace _,_,_,_"]],
         )
 
-    def test_the_letter(self) -> None:
+    def test_the_letter(self):
         how = {"questions": SEVERAL, "quorum_votes": {"A": 0, "B": 1, "C": 0}}
         for kind in ("open", "secret", "signed"):
             with self.subTest(kind):
@@ -109,7 +109,7 @@ class Aliases(unittest.TestCase):
         for number, name in enumerate(ROLL, start=10)
     ]
 
-    def test_each_question_has_its_own(self) -> None:
+    def test_each_question_has_its_own(self):
         secret = Questions(
             {label: dataclasses.replace(poll, secret=True) for label, poll in SEVERAL.items()},
             SEVERAL.title,
@@ -138,7 +138,7 @@ class Aliases(unittest.TestCase):
         # a code of the roll is its own alias
         self.assertEqual(alias_in("", Elector(1, "c" * 32, 1, "", ())), "c" * 32)
 
-    def test_slips_and_the_table_of_codes(self) -> None:
+    def test_slips_and_the_table_of_codes(self):
         call = dataclasses.replace(calls.SECRET, at=None, questions=SEVERAL)
         page = slips(call, self.electors).decode()
         self.assertIn("<code>ada<br>A _,_<br>B _,_,_,_<br>C _,_</code>", page)

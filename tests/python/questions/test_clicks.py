@@ -24,7 +24,7 @@ class QuestionsByBox(boxes.BoxElectionTest):
     new_words = ("--questions", "4")
     poll = "".join(POLLS.values())
 
-    def fill_in(self, folder: pathlib.Path) -> None:
+    def fill_in(self, folder: pathlib.Path):
         super().fill_in(folder)
         (folder / "poll.toml").unlink()
         (folder / "polls" / "title.txt").write_text("General assembly 2026\n")
@@ -36,7 +36,7 @@ class QuestionsByBox(boxes.BoxElectionTest):
 class Clocks(QuestionsByBox):
     has_clock = True
 
-    def test_a_click_that_the_clock_may_have_put_before_a_letter(self) -> None:
+    def test_a_click_that_the_clock_may_have_put_before_a_letter(self):
         """Nobody knows which is later: by force it is entered whole."""
         links = self.begun()
         self.host_off(-180)
@@ -65,12 +65,12 @@ class Clocks(QuestionsByBox):
 @NEEDS_PHP
 @NEEDS_BROWSER
 class Clicks(QuestionsByBox):
-    def setUp(self) -> None:
+    def setUp(self):
         super().setUp()
         self.begun()
         self.window = self.enterContext(Window(360, 640))
 
-    def open(self, name: str) -> None:
+    def open(self, name: str):
         letters = (file.read_bytes() for file in (self.folder / "letters/call").rglob("*.eml"))
         places = {found[0]: "/".join(found) for found in map(boxes.link_in, letters)}
         self.window.tell("Page.navigate", url="about:blank")
@@ -78,7 +78,7 @@ class Clicks(QuestionsByBox):
         self.window.tell("Page.navigate", url=f"{self.host.at}#{places[name]}")
         self.window.until("document.readyState === 'complete' && document.getElementById('Vote')")
 
-    def answer(self, label: str, *ranks: str) -> None:
+    def answer(self, label: str, *ranks: str):
         """Touches the buttons of a question, or chooses in its lists."""
         self.window.ask(
             f"""(() => {{
@@ -92,13 +92,13 @@ class Clicks(QuestionsByBox):
         }})()"""
         )
 
-    def vote(self) -> None:
+    def vote(self):
         self.window.ask("document.getElementById('Vote').click()")
         self.window.until(
             "document.getElementById('Sent').textContent.startsWith('It has arrived')"
         )
 
-    def test_some_answers_and_one_of_them_again(self) -> None:
+    def test_some_answers_and_one_of_them_again(self):
         self.open("ada")
         self.answer("A", "1,2")
         self.answer("D", *PLACES)

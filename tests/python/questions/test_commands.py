@@ -23,7 +23,7 @@ def at(hour: int) -> str:
 
 
 class Desk(QuestionsTest):
-    def test_of_all_questions(self) -> None:
+    def test_of_all_questions(self):
         self.add_lines("ada A 2,1 C 1,2,3,4")
         desk = Terminal(self)
         shown = desk.until("Ballot: ")
@@ -83,7 +83,7 @@ class Desk(QuestionsTest):
             files,
         )
 
-    def test_of_one_question(self) -> None:
+    def test_of_one_question(self):
         desk = Terminal(self, "desk", "--question", "b")
         shown = desk.until("Ballot: ")
         self.assertIn(
@@ -120,7 +120,7 @@ class Desk(QuestionsTest):
 
 
 class Held(QuestionsTest):
-    def test_a_ballot_of_which_some_answers_have_a_later_one(self) -> None:
+    def test_a_ballot_of_which_some_answers_have_a_later_one(self):
         """It is never entered whole, also by force: the line to type is named. Where all have one, by letter it is passed over, and else it needs force."""
         self.add(
             letter("ada", "ada A 1,2\n", number=1, time=at(11)),
@@ -171,7 +171,7 @@ class Held(QuestionsTest):
             ],
         )
 
-    def test_a_letter_is_dealt_with_as_a_whole(self) -> None:
+    def test_a_letter_is_dealt_with_as_a_whole(self):
         """By --enter, if all its ballots say the same, or by --as: then it waits no more. An answer that is left is typed, and one that was entered never again."""
         self.add(
             letter("ada", "ada A 1,2\n\nand for the board\n\nada B 1,2,3\n", time=at(9)),
@@ -215,7 +215,7 @@ class Held(QuestionsTest):
             self.lines(), ["ben A 1,2", "ada A 1,2", "cleo A 1,2", "cleo B 3,1,2", "ada B 1,2,3"]
         )
 
-    def test_of_a_couple(self) -> None:
+    def test_of_a_couple(self):
         """Who has no ballot of their letter is told with the command; the other's is entered by force, whenever it is, since the own mark is of one alone."""
         self.change_roll("ben@club", "ada@club")
         self.add(letter("ada", "ada\nA 1,2\n\nBen\nA 2,1\nB 1,2,3\n", time=at(9)))
@@ -235,7 +235,7 @@ class Held(QuestionsTest):
         self.assertNotIn("has no ballot of", self.told(*typed, *FORCED))
         self.assertEqual(self.lines(), ["ada A 1,2", "ben A 2,1 B 1,2,3"])
 
-    def test_who_has_voted_since_answered_the_same_question(self) -> None:
+    def test_who_has_voted_since_answered_the_same_question(self):
         texts = ("ada A 1,2\nas ever\n", "ada B 1,2,3\nas ever\n")
         self.add(
             *(letter("ada", text, number=number, time=at(9)) for number, text in enumerate(texts)),
@@ -245,7 +245,7 @@ class Held(QuestionsTest):
         self.assertEqual(shown.count("has voted since"), 1)
         self.assertRegex(shown, r"has voted since\n +line 1: ada A 1,2\n +written: as ever\n")
 
-    def test_nothing_is_left_out_of_a_letter_whose_time_is_not_known(self) -> None:
+    def test_nothing_is_left_out_of_a_letter_whose_time_is_not_known(self):
         """Nobody knows which answer is the later one: it stops, and by force the whole letter is entered."""
         self.add(
             letter("ada", "ada A 1,2\n", number=1, time=at(9)),
@@ -259,7 +259,7 @@ class Held(QuestionsTest):
         self.told(*enter, *FORCED)
         self.assertEqual(self.lines(), ["ada A 1,2", "ada A 2,1 B 1,2,3"])
 
-    def test_a_late_line_is_later_than_no_letter(self) -> None:
+    def test_a_late_line_is_later_than_no_letter(self):
         self.done("close", "--early", "--force", "--because", "x", "--yes")
         self.done("desk", given="ada B 3,2,1\n")
         self.add(letter("ada", "ada A 1,2 B 1,2,3\n", number=1, time=at(9)))
@@ -275,7 +275,7 @@ class Held(QuestionsTest):
         )
         self.assertIn("The current ballot: ada A 1,2 B 1,2,3:\n  A (", self.told("show", "ada"))
 
-    def test_a_late_line_that_would_replace_a_later_answer(self) -> None:
+    def test_a_late_line_that_would_replace_a_later_answer(self):
         """To the same question: only that needs force."""
         close = ("close", "--early", "--force", "--because", "x", "--yes")
         self.done(*close)
@@ -290,7 +290,7 @@ class Held(QuestionsTest):
         self.done(*close)
         self.assertEqual(self.last("close")["replaced_in_time"], 1)
 
-    def test_what_is_typed_has_the_form_of_a_ballot_and_only_valid_answers(self) -> None:
+    def test_what_is_typed_has_the_form_of_a_ballot_and_only_valid_answers(self):
         self.add(letter("ada", "I say yes\n", number=1))
         for typed, why in {
             "ada 1,2": "bad shape",
@@ -307,7 +307,7 @@ class Held(QuestionsTest):
 
 
 class Sums(QuestionsTest):
-    def test_whole_ballots_come_first(self) -> None:
+    def test_whole_ballots_come_first(self):
         """Then those of which the answers differ, with how many answers to each question are what."""
         self.add_lines("ada A 1,2", "ben B 1,2,3")
         self.write(
@@ -325,7 +325,7 @@ class Sums(QuestionsTest):
 
 
 class TakenAway(QuestionsTest):
-    def test_undo_takes_back_both_envelopes_of_a_line(self) -> None:
+    def test_undo_takes_back_both_envelopes_of_a_line(self):
         self.add_lines("ada A 1,2")
         self.add_lines("ada A 2,1 B 1,2,3 C 1,2")
         self.assertEqual(self.lines(), ["ada A 1,2", "ada A 2,1 B 1,2,3", "ada C 1,2"])
@@ -335,13 +335,13 @@ class TakenAway(QuestionsTest):
         self.assertEqual(self.lines(), ["ada A 1,2"])
         self.assertIn(f"The current ballot: ada A 1,2:\n  {YES}\n", self.told("show", "ada"))
 
-    def test_a_strike_brings_back_what_it_had_replaced(self) -> None:
+    def test_a_strike_brings_back_what_it_had_replaced(self):
         self.add_lines("ada A 1,2 B 1,2,3", "ada A 2,1")
         self.assertIn(f" (A replaced):\n    {YES}\n    {CHAIR}\n", self.told("show", "ada"))
         said = self.told("strike", "2", "--because", "it was ben's", "--yes")
         self.assertIn(f"The current ballot of ada:\n  {YES}\n  {CHAIR}\n", said)
 
-    def test_a_letter_whose_later_answer_is_taken_away_is_judged_anew(self) -> None:
+    def test_a_letter_whose_later_answer_is_taken_away_is_judged_anew(self):
         """`strike` and `undo` name it, and the next `add` takes it whole."""
         for number, name in enumerate(("ada", "ben"), start=1):
             self.done("desk", given=f"{name} B 3,2,1\n")
@@ -361,7 +361,7 @@ class TakenAway(QuestionsTest):
             )
         self.assertEqual(self.lines(), ["ada A 1,2 B 1,2,3", "ben A 1,2 B 1,2,3"])
 
-    def test_what_was_typed_stays_so_after_a_reopen(self) -> None:
+    def test_what_was_typed_stays_so_after_a_reopen(self):
         """Nothing of the letter's own line is entered beside it or in its place."""
         self.done("call", "--until", "2026-11-25 09:20", "--zone", "UTC")
         self.set_clock("2026-11-25T10:00:00+00:00")
@@ -378,7 +378,7 @@ class TakenAway(QuestionsTest):
         self.assertNotIn("--enter", self.told("undo", "--yes"))
         self.assert_refused(["held", "1", "--as", "ada A 1"], 9, "is no ballot of this poll")
 
-    def test_a_file_that_comes_again(self) -> None:
+    def test_a_file_that_comes_again(self):
         """What came before is passed over, and of an answer that was replaced since it is told."""
         self.write("first", "ada A 1,2 B 1,2,3\nben C 1,2\n")
         self.done("add", "--force", "first")
@@ -403,7 +403,7 @@ class Told(QuestionsTest):
             texts[file.stem] = " ".join(data.decode().split())
         return texts
 
-    def test_our_letter_below_a_ballot_has_no_answer(self) -> None:
+    def test_our_letter_below_a_ballot_has_no_answer(self):
         """As Outlook quotes it, it is a quotation; with no head above, as a sender may write it, it is looked at."""
         self.done("letters", "call")
         [file] = (self.folder / "letters" / "call").rglob("ada.eml")
@@ -417,7 +417,7 @@ class Told(QuestionsTest):
             self.add(letter("ada", f"ada A 1,2\n\n{head}{ours.get_content()}", number=number))
             self.assertEqual(self.lines(), lines)
 
-    def test_receipts_say_what_of_a_ballot_does_not_count(self) -> None:
+    def test_receipts_say_what_of_a_ballot_does_not_count(self):
         self.add_lines("ada A 1,2 B 1,2,3", "ada A 2,1", "ben A 1,2 B 1,2", words=["--force"])
         texts = self.letters("receipts")
         self.assertEqual(sorted(texts), ["ada", "ben"])
@@ -432,11 +432,11 @@ class Told(QuestionsTest):
             texts["ben"],
         )
 
-    def test_who_has_answered_one_question_is_not_reminded(self) -> None:
+    def test_who_has_answered_one_question_is_not_reminded(self):
         self.add_lines("ada B 1,2,3", "ben B 1,2", words=["--force"])
         self.assertEqual({*self.letters("reminders")}, {*self.names} - {"ada"})
 
-    def test_status(self) -> None:
+    def test_status(self):
         self.add_lines("ada A 1,2 B 1,2,3", "ada A 2,1", "ben A 1,2 B 1,2", words=["--force"])
         said = self.told("status")
         self.assertIn("Question A: Raise the fee to 72 Euro: 2 electors answered\n", said)
@@ -470,7 +470,7 @@ class Many(QuestionsTest):
     def ballots(self, answers: str) -> list[str]:
         return [f"{name} {answers}" for name in self.names]
 
-    def test_lines(self) -> None:
+    def test_lines(self):
         few = self.add_lines(*self.ballots("A 1,2 B 1,2,3")[:2])
         self.assertIn(f"1 counted  m01:\n  {YES}\n  {CHAIR}\n2 counted  m02:\n", few)
         said = self.add_lines(*self.ballots("A 2,1 B 1,2,3 C 1,2,3,4"))
@@ -486,7 +486,7 @@ class Many(QuestionsTest):
             "  A (Raise the fee to 72 Euro): No, as it is, then", self.told("show", "m01")
         )
 
-    def test_letters(self) -> None:
+    def test_letters(self):
         letters = [
             letter(name, f"{ballot}\n", number=number)
             for number, (name, ballot) in enumerate(

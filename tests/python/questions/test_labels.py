@@ -90,7 +90,7 @@ def of(name: str, text: str, number: int, hour: int = 10) -> bytes:
 class LabelsTest(QuestionsTest):
     members = MEMBERS
 
-    def demand_entered(self, *lines: str) -> None:
+    def demand_entered(self, *lines: str):
         """The book has these lines, and the sheet of each question is that of their parts."""
         self.assertEqual(self.lines(), list(lines))
         for label, sheet in self.sheets().items():
@@ -98,7 +98,7 @@ class LabelsTest(QuestionsTest):
 
 
 class Lines(LabelsTest):
-    def test_in_a_file(self) -> None:
+    def test_in_a_file(self):
         """Each stops the whole file, and is named with its line, also by force."""
         for first in range(0, len(WRONG), 5):
             texts, before = WRONG[first : first + 5], self.last_act()
@@ -115,7 +115,7 @@ class Lines(LabelsTest):
                 self.assertIn(f"lines:{number}: `{text}` was changed to `{entered}`", said)
         self.demand_entered(*RIGHT.values())
 
-    def test_at_a_desk(self) -> None:
+    def test_at_a_desk(self):
         said = self.done("desk", given="".join(f"{text}\n" for text in WRONG)).output
         named = re.findall(r"desk:(\d+): .*it was not entered", said)
         self.assertEqual(named, [str(number) for number in range(1, len(WRONG) + 1)])
@@ -123,7 +123,7 @@ class Lines(LabelsTest):
         self.done("desk", given="".join(f"{text}\n" for text in RIGHT))
         self.demand_entered(*RIGHT.values())
 
-    def test_what_status_says_of_a_refused_answer(self) -> None:
+    def test_what_status_says_of_a_refused_answer(self):
         """Cleo has a ballot, but none to B; Ben has one to B, too."""
         self.done("desk", given="cleo A 1,2 B 1\nben B 1,2,3\nben B 1,2,3,4\nzoe C 1\na B 1\n")
         its = self.done("status").output.partition("Refused lines of electors without a ballot ")[2]
@@ -133,7 +133,7 @@ class Lines(LabelsTest):
             ("to the question, or of nobody known (3):\n  enve", ["cleo B 1", "zoe C 1", "a B 1"]),
         )
 
-    def test_at_a_terminal(self) -> None:
+    def test_at_a_terminal(self):
         """What may be the last letter of a name, or the label, is neither, for a part of a name, too."""
         desk = Terminal(self)
         desk.until("Ballot: ")
@@ -158,11 +158,11 @@ class Lines(LabelsTest):
         desk.type("q\n")
         self.demand_entered(*RIGHT_AT_A_TERMINAL.values())
 
-    def test_at_a_desk_of_one_question(self) -> None:
+    def test_at_a_desk_of_one_question(self):
         self.done("desk", "--question", "B", given="Ben 1,2,3\nben 3,2,1\nben-b 1,2,3\n")
         self.demand_entered("ben B 1,2,3", "ben B 3,2,1", "ben-b B 1,2,3")
 
-    def test_a_line_with_a_refused_answer_is_one_that_came_before(self) -> None:
+    def test_a_line_with_a_refused_answer_is_one_that_came_before(self):
         self.write("first", "cleo A 1,2,3 B 1,2,3\n")
         self.done("add", "first")
         self.write("more", "cleo A 1,2,3 B 1,2,3\ndan A 1,2,3 B 1,2,3\n")
@@ -177,7 +177,7 @@ class OneNameOfTwo(QuestionsTest):
         "who,name,mail\nMaximilian Mayer,max,\nMax,,max@club.example\nCleo,cleo,cleo@club.example\n"
     )
 
-    def test_of_several_questions(self) -> None:
+    def test_of_several_questions(self):
         unclear = "it has the name of max and max-2"
         self.assertIn(unclear, self.election("add", given="Max A 1,2\n").faults)
         for words, line in (((), "MAX a: 1,2"), (("--question", "A"), "Max 1,2")):
@@ -217,7 +217,7 @@ class Words(LabelsTest):
     polls = {**QuestionsTest.polls, "A": f"{FEE}motion = true\n"}
     poll = "".join(polls.values())
 
-    def test_behind_a_name_that_ends_in_a_letter(self) -> None:
+    def test_behind_a_name_that_ends_in_a_letter(self):
         lines = {
             "A A yes": "a A 1,2",
             "A: A no": "a A 2,1",
@@ -232,7 +232,7 @@ class Words(LabelsTest):
 
 
 class Letters(LabelsTest):
-    def test_letters(self) -> None:
+    def test_letters(self):
         """Each waits, and is shown by `held`; what is right goes in, in the order of the letters."""
         texts = [
             *WRONG,
@@ -259,7 +259,7 @@ class Letters(LabelsTest):
         self.assertIn(f"{len(right)} ballots of letters went in", self.add(*right))
         self.demand_entered(*RIGHT.values())
 
-    def test_as(self) -> None:
+    def test_as(self):
         self.add(letter("cleo", "I am for the slate.\n"))
         # without a name it is of whose mark the letter has
         for text in (one for one in WRONG[::6] if not re.match(r"[A-D] ", one)):
@@ -275,7 +275,7 @@ class Letters(LabelsTest):
 class Names(LabelsTest):
     call_words = None
 
-    def test_who_can_be_taken_for_a_label(self) -> None:
+    def test_who_can_be_taken_for_a_label(self):
         [note] = [
             line for line in self.done("check").output.splitlines() if line.startswith("Note: ")
         ]
@@ -287,7 +287,7 @@ class Names(LabelsTest):
 class Exchanged(QuestionsTest):
     """Files of one question in the place of another one: the checksums of the letters say it, and so do the pages."""
 
-    def setUp(self) -> None:
+    def setUp(self):
         super().setUp()
         self.add_lines("ada A 1,2 B 1,2,3 C 1,2,3,4", "ben A 1,2 C 1,2,3,4", "cleo B 1,2,3")
         self.done("letters", "call")
@@ -311,7 +311,7 @@ class Exchanged(QuestionsTest):
     def changes(self) -> dict[str, Callable[[pathlib.Path], object]]:
         """What a change does to the files of a folder, by what it changes."""
 
-        def exchange(folder: pathlib.Path, one: str, other: str) -> None:
+        def exchange(folder: pathlib.Path, one: str, other: str):
             (folder / one).rename(folder / "aside")
             (folder / other).rename(folder / one)
             (folder / "aside").rename(folder / other)
@@ -332,7 +332,7 @@ class Exchanged(QuestionsTest):
             ),
         }
 
-    def test_in_the_call_and_in_the_result(self) -> None:
+    def test_in_the_call_and_in_the_result(self):
         for kind, name, letter, first in (
             ("call", "polls.sha256", self.announced, 0),
             ("result", "SHA256SUMS", self.result, 0),
@@ -345,7 +345,7 @@ class Exchanged(QuestionsTest):
                 change(copy)
                 self.assertFalse(self.is_whole(copy, name, letter), copy)
 
-    def test_pages_and_the_folder_of_another_assembly(self) -> None:
+    def test_pages_and_the_folder_of_another_assembly(self):
         """Each page names the checksum of the list, and of no other poll than its own; the list binds the title."""
         result, sums = self.folder / "result", self.read("call/polls.sha256")
         digests = {line[66:67]: line[:64] for line in sums.decode().splitlines()[: len(self.polls)]}

@@ -116,12 +116,12 @@ OUTLOOK = (
 class Written(unittest.TestCase):
     """A ballot as people write it."""
 
-    def demand(self, wanted: Mapping[str, str], **how: object) -> None:
+    def demand(self, wanted: Mapping[str, str], **how: object):
         for text, what in wanted.items():
             with self.subTest(text):
                 self.assertEqual(becomes(text, **how), what)  # type: ignore[arg-type]
 
-    def test_goes_in(self) -> None:
+    def test_goes_in(self):
         """Broken before labels, with empty lines there or none, the name again before a label, labels as people write them and in any order."""
         texts = (
             "ada A 1,2 B 2,1,3,-",
@@ -146,7 +146,7 @@ class Written(unittest.TestCase):
         )
         self.demand(dict.fromkeys(texts, ALL))
 
-    def test_waits(self) -> None:
+    def test_waits(self):
         """With anything else in it; `--enter` takes its ballot if there is one alone, and no other line that begins as an answer."""
         none, more, taken = "waits: no ballot", "waits: not alone", "waits: not alone (ada A 1,2)"
         self.demand(
@@ -201,7 +201,7 @@ class Written(unittest.TestCase):
             }
         )
 
-    def test_quotations(self) -> None:
+    def test_quotations(self):
         """An answer that somebody filled in there, in any line, is none that is left out; nor is what stands below, or has no head."""
         more, taken, quoted = (
             "waits: not alone",
@@ -246,7 +246,7 @@ class Written(unittest.TestCase):
             how=answer,
         )
 
-    def test_a_label_is_taken_for_no_name_and_a_name_for_no_label(self) -> None:
+    def test_a_label_is_taken_for_no_name_and_a_name_for_no_label(self):
         for name, text, wanted in (
             ("ben", "Ben A 1,2", "in: ben A 1,2"),
             ("cleo", "Ben B B 1,2,3,4", "in: cleo B 1,2,3,4"),
@@ -273,7 +273,7 @@ class Written(unittest.TestCase):
             with self.subTest(text, name=name):
                 self.assertEqual(becomes(text, name=name), wanted)
 
-    def test_of_couples(self) -> None:
+    def test_of_couples(self):
         """A letter with ballots of several waits, and shows each; one of an elector who shares the address goes in, and who else does is told."""
         couple = {"addresses": {name: ["us@club.example"] for name in ("ada", "fay", "gus")}}
         subject = f"[{letters.MARK}-{letters.OWN['ada']}]"
@@ -296,7 +296,7 @@ class Written(unittest.TestCase):
                     (outcome(case), shown, case.shared_with), (wanted, ballots, shared)
                 )
 
-    def test_other_parts_of_a_letter(self) -> None:
+    def test_other_parts_of_a_letter(self):
         """Beside a plain text its own HTML is not read; HTML alone waits, and `--enter` takes its ballot."""
         plain, html = "ada\nA 1,2\nB 2,1,3,-\n", "<p>ada<br>A 2,1</p><p>B 2,1,3,-</p>"
         self.assertEqual(
@@ -311,7 +311,7 @@ class Written(unittest.TestCase):
 class Signed(unittest.TestCase):
     """Where letters have to be signed, the line with the mark is none of the text."""
 
-    def test_the_line_with_the_mark(self) -> None:
+    def test_the_line_with_the_mark(self):
         mark, key = f"[{letters.MARK}]", "A" * 40
         signature = Signature(key, at(10))
         for text, wanted in {
@@ -332,7 +332,7 @@ class Signed(unittest.TestCase):
 class InWords(unittest.TestCase):
     """A word behind a label of a motion is no ballot in a letter, and beside one it makes the letter wait."""
 
-    def test_words(self) -> None:
+    def test_words(self):
         none, more = "waits: no ballot", "waits: not alone"
         for text, wanted in {
             "ada A yes": none,
@@ -358,7 +358,7 @@ class InWords(unittest.TestCase):
 
 
 class Long(unittest.TestCase):
-    def test_each_ends_soon(self) -> None:
+    def test_each_ends_soon(self):
         """A time that grows with the square of the length would be minutes."""
         accents = f"{chr(0x301) * 60_000}{chr(0x316) * 60_000}"
         texts = (
@@ -391,7 +391,7 @@ def minute(number: int) -> str:
 class Later(unittest.TestCase):
     """A ballot is later than others by question."""
 
-    def test_by_question(self) -> None:
+    def test_by_question(self):
         """A letter of 10 o'clock beside ballots that were entered, each with its hour and whether it came by letter; and whether its elector has voted since."""
         two = "ada A 1,2 B 1,2,3,4"
         went_in, later = (f"in: {two}", False), ("waits: later ballot", True)
@@ -419,7 +419,7 @@ class Later(unittest.TestCase):
                 [case] = judged(letter("ada", text), ballots={"ada": ballots})
                 self.assertEqual((outcome(case), bool(case.voted_since)), wanted)
 
-    def test_several_letters(self) -> None:
+    def test_several_letters(self):
         """Two of one time that answer one question differently both wait; so does a copy beside another answer that came between the two."""
         for texts, wanted in {
             ("ada A 1,2", "ada B 1,2,3,4"): ["in: ada A 1,2", "in: ada B 1,2,3,4"],
@@ -435,7 +435,7 @@ class Later(unittest.TestCase):
             found = judged(*copies, letter("ada", between, number=7, time=minute(60)))
             self.assertEqual(outcome(found[-1]), becomes_copy)
 
-    def test_of_many_letters_of_an_elector_each_is_compared_with_few(self) -> None:
+    def test_of_many_letters_of_an_elector_each_is_compared_with_few(self):
         """Twice as many take about twice as long, also after one by another clock, which may turn others; and so do many that are alike, and copies."""
         texts = {
             "one": (BALLOT, OTHER),
@@ -644,7 +644,7 @@ class Random(unittest.TestCase):
                 wrong.append(f"{outcome(case)}:\n{text}")
         return went_in, wrong
 
-    def test_what_goes_in_is_all_that_the_letter_says(self) -> None:
+    def test_what_goes_in_is_all_that_the_letter_says(self):
         went_in, wrong = self.tried(self.COUNT)
         self.assertEqual(wrong, [])
         self.assertTrue(self.COUNT / 3 < went_in < self.COUNT * 2 / 3, went_in)
@@ -674,13 +674,13 @@ class Forged(unittest.TestCase):
         self.assertEqual([text for text, single in went_in if not single.startswith("in: ")], [])
         return len(went_in)
 
-    def test_answers_to_forgeries(self) -> None:
+    def test_answers_to_forgeries(self):
         texts = random.Random(1).sample(
             list(test_forgeries.answers_to_forgeries()), min(3_984, Random.COUNT)
         )
         self.assertEqual([self.demand(texts, "own"), self.demand(texts[:600], "none")], [0, 0])
 
-    def test_the_last_answer_elsewhere(self) -> None:
+    def test_the_last_answer_elsewhere(self):
         """Next to a quotation, or below the end of the text."""
         for rest in (
             "B 1,2,3,4\n> x",

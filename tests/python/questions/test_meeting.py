@@ -90,7 +90,7 @@ def text_in(data: bytes) -> str:
 class Meeting(boxes.BoxElectionTest):
     """Counts its commands, and keeps what each member wants last, by question, and the ballots in the order in which they go in."""
 
-    def setUp(self) -> None:
+    def setUp(self):
         super().setUp()
         self.commands, self.chance = 0, random.Random(40)
         self.wanted: dict[str, dict[str, str]] = {}
@@ -98,7 +98,7 @@ class Meeting(boxes.BoxElectionTest):
         self.server = MailServer()
         self.addCleanup(self.server.stop)
 
-    def begin(self) -> None:
+    def begin(self):
         """The folder is made by the commands of the meeting."""
 
     def command(self, *words: object, status: int = 0, **how: object) -> str:
@@ -109,7 +109,7 @@ class Meeting(boxes.BoxElectionTest):
         self.assertLessEqual(len(said.splitlines()), MOST_LINES, (words, ended))
         return said
 
-    def begin_with(self, polls: Mapping[str, Poll], more: str = "") -> None:
+    def begin_with(self, polls: Mapping[str, Poll], more: str = ""):
         """A new election with these questions, whose files the secretary writes."""
         self.polls, self.folder = polls, self.scratch / "wahl"
         words = ("new", "--language", "de", "--questions", len(polls), self.folder)
@@ -152,12 +152,12 @@ class Meeting(boxes.BoxElectionTest):
         self.assertEqual(len(self.server.taken), count)
         return [one.data for one in self.server.taken]
 
-    def clicks(self, names: list[str]) -> None:
+    def clicks(self, names: list[str]):
         time.sleep(1.1)
         for name in names:
             self.click(name, self.ballot(name).partition(" ")[2], self.personal[name][1])
 
-    def demand_whole(self, folder: str) -> None:
+    def demand_whole(self, folder: str):
         """All files of the result have the checksums of the lists."""
         result = self.folder / folder
         lists = [("SHA256SUMS", label) for label in ("", *self.polls)]
@@ -171,7 +171,7 @@ class Meeting(boxes.BoxElectionTest):
         there = {str(file.relative_to(result)) for file in result.rglob("*") if file.is_file()}
         self.assertEqual(there - listed, {"SHA256SUMS"})
 
-    def demand_count(self, folder: str, label: str, lines: list[str], counting: Answers) -> None:
+    def demand_count(self, folder: str, label: str, lines: list[str], counting: Answers):
         """The sheet of a question is that of an election of its own with the same answers, by the second program."""
         place = self.folder / folder / label
         self.write("single", "".join(f"{line}\n" for line in lines))
@@ -182,7 +182,7 @@ class Meeting(boxes.BoxElectionTest):
         self.assertEqual((place / "standing.txt").read_text().splitlines(), standing)
 
     # ---- seven open questions
-    def test_an_evening(self) -> None:
+    def test_an_evening(self):
         self.called()
         self.clicks(MEMBERS[:11])
         self.command("add", "--box", "--yes")
@@ -241,7 +241,7 @@ class Meeting(boxes.BoxElectionTest):
         self.demand_letters(sent)
         self.done("log", "--check")
 
-    def called(self) -> None:
+    def called(self):
         self.begin_with(OPEN)
         self.command("check")
         self.set_clock(time.strftime("%Y-%m-%dT%H:%M:%S+00:00", time.gmtime(time.time() - 3600)))
@@ -265,7 +265,7 @@ class Meeting(boxes.BoxElectionTest):
         self.assertEqual([title for title in titles if title not in page], [])
         self.assertEqual(len([*(self.folder / "call").rglob("*.html")]), 1)
 
-    def letters(self) -> None:
+    def letters(self):
         """Of those who write two write more, and their letters wait."""
         time.sleep(1.1)
         letters, waiting = [], {}
@@ -290,7 +290,7 @@ class Meeting(boxes.BoxElectionTest):
             self.ballot(name, answers)
             self.command("held", number, "--as", one_line(name, answers))
 
-    def demand_pages(self) -> None:
+    def demand_pages(self):
         """One page for all questions, which leads to that of each; each names its poll and the list of polls."""
         page = self.read("result-2/index.html").decode()
         places = [page.index(f'href="{label}/index.html"') for label in self.polls]
@@ -301,7 +301,7 @@ class Meeting(boxes.BoxElectionTest):
             poll = hashlib.sha256(self.read(f"result-2/{label}/poll.toml")).hexdigest()
             self.assertTrue(self.checksum in own and poll in own, label)
 
-    def demand_letters(self, sent: list[bytes]) -> None:
+    def demand_letters(self, sent: list[bytes]):
         """Each letter of the result has all answers that count, and the words of each motion, counted by this test."""
         for data in sent:
             text, [name] = text_in(data), re.findall(rb"(?m)^To:.*(m\d\d)@", data)
@@ -314,7 +314,7 @@ class Meeting(boxes.BoxElectionTest):
                     self.assertIn(f", Enthaltungen: {abstained}.", text)
 
     # ---- two secret questions
-    def test_a_secret_vote(self) -> None:
+    def test_a_secret_vote(self):
         """Each question has its own aliases, and no page tells a code, or who voted what."""
         self.begin_with(SECRET, "secret = true\n")
         self.command("codes")

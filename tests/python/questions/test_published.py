@@ -42,7 +42,7 @@ SUM = re.compile(r"(?m)^ *([0-9a-f]{64})(?:  (\S+))?$")
 class PublishedTest(QuestionsTest):
     secret = False
 
-    def setUp(self) -> None:
+    def setUp(self):
         super().setUp()
         self.add_lines(*BALLOTS)
 
@@ -81,7 +81,7 @@ class PublishedTest(QuestionsTest):
 
 
 class OpenTest(PublishedTest):
-    def test_what_is_counted_and_closed(self) -> None:
+    def test_what_is_counted_and_closed(self):
         sheets = self.sheets()
         for label in self.polls:
             with self.subTest(label):
@@ -112,7 +112,7 @@ class OpenTest(PublishedTest):
             self.assertEqual(self.read(f"result/{label}/closed.txt"), letter)
             self.assertEqual(self.read(f"result/{label}/sheet.txt").decode(), sheets[label])
 
-    def test_the_page_of_all_questions(self) -> None:
+    def test_the_page_of_all_questions(self):
         """It has no list of options, so none has a number there; and it names each earlier result, of all questions."""
         self.done("close", "--early")
         self.publish(status=1)
@@ -133,7 +133,7 @@ class OpenTest(PublishedTest):
         page = self.read("result/B/index.html").decode()
         self.assertIn(f'<a href="../index.html">{self.title}</a> · <b>B</b>', page)
 
-    def test_names_of_questions_and_casting_votes(self) -> None:
+    def test_names_of_questions_and_casting_votes(self):
         said = "there is no question D; nothing was counted: name one of A, B, C"
         self.assert_fault(self.election("count", "--question", "D"), 2, said)
         said = "no question has this label; nothing was counted: write it as A=NAME; the labels are A, B, C"
@@ -168,7 +168,7 @@ class OpenTest(PublishedTest):
         ended = self.election("count", "--casting", "c=Tiles", "--casting", "B=Mary Somerville")
         self.assertEqual((ended.status, ended.output.count("by casting vote")), (0, 2))
 
-    def test_the_folder(self) -> None:
+    def test_the_folder(self):
         self.done("close", "--early")
         self.write("about.txt", "Certified by the board.")
         said = self.publish(
@@ -229,7 +229,7 @@ class OpenTest(PublishedTest):
         self.assertEqual(told, ["result"])
         self.assert_each_counts()
 
-    def assert_each_counts(self) -> None:
+    def assert_each_counts(self):
         """The folder of each question is that of a vote: all programs count it."""
         files = "--poll poll.toml --ballots ballots.txt"
         words = f"{files} --sheet sheet.txt"
@@ -248,7 +248,7 @@ class OpenTest(PublishedTest):
         for name in ("sheet.txt", "standing.txt", "votes.csv", "result.json"):
             self.assertEqual((made / name).read_bytes(), self.read(f"{folder}/{name}"), name)
 
-    def test_again_and_another_casting_vote(self) -> None:
+    def test_again_and_another_casting_vote(self):
         self.done("close", "--early")
         self.publish("--casting", "B=Mary Somerville", "--casting", "C=Slate", *CAST)
         before, act = self.contents(), self.last_act()
@@ -281,7 +281,7 @@ class OpenTest(PublishedTest):
         (self.folder / "result" / "D").rmdir()
         self.assertIn("as it was published before", self.publish())
 
-    def test_one_casting_vote_after_the_other(self) -> None:
+    def test_one_casting_vote_after_the_other(self):
         """The command that is told for the second has the first, without which that question would be a tie again."""
         self.done("close", "--early")
         first = self.publish(status=1)
@@ -327,7 +327,7 @@ class OpenTest(PublishedTest):
         self.assertEqual([letter, *pages], [letter, letter, [], letter[:1], letter[1:]])
         return letter
 
-    def test_casting_votes_of_two_holders(self) -> None:
+    def test_casting_votes_of_two_holders(self):
         """What is given once holds for all; what is given as often as --casting is said of each in its order."""
         self.done("close", "--early")
         votes = ("--casting", "C=Tiles", "--casting", "B=Ada Lovelace")
@@ -398,7 +398,7 @@ class OpenTest(PublishedTest):
             )
         return found
 
-    def test_doubts(self) -> None:
+    def test_doubts(self):
         """One about the whole vote is told once, another at its question."""
         self.add_lines(
             *(f"{name} B 1,2" for name in ("dan", "eve", "fay")),
@@ -429,7 +429,7 @@ class OpenTest(PublishedTest):
         self.assertEqual(kept, [(None, "not closed"), ("B", "mostly refused")])
         self.assertIn("as it was published before", self.publish(status=1))
 
-    def test_times_are_said_to_the_secretary_as_on_the_page(self) -> None:
+    def test_times_are_said_to_the_secretary_as_on_the_page(self):
         self.done("call", "--until", "2026-12-04 18:00", "--zone", "Europe/Berlin")
         self.done("close", "--early")
         note = self.publish("--casting", "B=Mary Somerville", "--casting", "C=Slate", *CAST)
@@ -441,7 +441,7 @@ class OpenTest(PublishedTest):
             f"Note: the vote was closed on {closed}, before its announced end, {until}; the result page",
         )
 
-    def test_what_was_done_is_told_once(self) -> None:
+    def test_what_was_done_is_told_once(self):
         self.done("strike", "5", "--because", "it was a joke")
         self.done("close", "--early")
         first = self.sums_in("letters/closed.txt")
@@ -501,7 +501,7 @@ class OpenTest(PublishedTest):
 class EndedTest(PublishedTest):
     call_words = ("--to", "vote@club.example", "--until", "2026-12-04 18:00", "--zone", "UTC")
 
-    def test_a_note_about_each_question_is_said_once(self) -> None:
+    def test_a_note_about_each_question_is_said_once(self):
         """That there are no pictures, and in the letter how many lines came after the end, of which each answers some questions."""
         self.set_clock("2026-12-05T00:00:00+00:00")
         self.add_lines("dan A 1,2 B 1,2,3", "eve A 1,2")
@@ -532,7 +532,7 @@ class SecretTest(PublishedTest):
         file = next((self.folder / "private").glob("*.csv"))
         return {row["name"]: row["code"] for row in csv.DictReader(io.StringIO(file.read_text()))}
 
-    def test_no_folder_tells_of_another(self) -> None:
+    def test_no_folder_tells_of_another(self):
         ended = self.election("count")
         self.assert_fault(ended, 9, "the vote is secret, and can be counted only after the close")
         self.done("close", "--early")
@@ -558,7 +558,7 @@ class SecretTest(PublishedTest):
                 self.assertIsNone(re.search(r"\b(cleo|gus) ", data), file)
         self.assertEqual(self.told("log").count("seal"), 0)
 
-    def test_each_holder_of_a_casting_vote_is_asked_about_once(self) -> None:
+    def test_each_holder_of_a_casting_vote_is_asked_about_once(self):
         self.done("close", "--early")
         first = ("--casting", "B=Ada Lovelace", *CAST)
         second = (*first, "--casting", "C=Tiles", "--cast-by", "Ben", "--cast-on", "2026-11-24")
@@ -585,7 +585,7 @@ class SecretTest(PublishedTest):
         )
         self.done(*one)
 
-    def test_a_second_close_asks_once(self) -> None:
+    def test_a_second_close_asks_once(self):
         self.done("close", "--early")
         self.publish("--yes", status=1)
         self.done("reopen", "--because", "a letter was forgotten")
@@ -598,7 +598,7 @@ class SecretTest(PublishedTest):
         self.publish("result-2", "--yes", status=1)
 
     @at_browser.NEEDS_BROWSER
-    def test_finding_ballots_in_a_browser(self) -> None:
+    def test_finding_ballots_in_a_browser(self):
         """One code finds the ballots of all questions, and those of one on its own page."""
         self.done("close", "--early")
         self.publish("--yes", status=1)
@@ -649,7 +649,7 @@ class PagesTest(PublishedTest):
     poll = "".join(polls.values())
     call_words = ("--to", "vote@club.example", "--names")
 
-    def test_the_pages_in_a_browser(self) -> None:
+    def test_the_pages_in_a_browser(self):
         self.done("close", "--early")
         self.publish("--casting", "B=Mary Somerville", *CAST, status=1)
         result = self.folder / "result"
@@ -726,11 +726,11 @@ class ManyTest(PublishedTest):
     poll = "".join(polls.values())
     new_words = ("--questions", "7")
 
-    def setUp(self) -> None:
+    def setUp(self):
         QuestionsTest.setUp(self)
         self.add_lines("ada A 1,2 G 2,1", "ben A 1,2 B 1,2")
 
-    def test_each_is_a_line(self) -> None:
+    def test_each_is_a_line(self):
         self.done("close", "--early")
         ended = self.election("publish")
         self.assertEqual(
@@ -762,7 +762,7 @@ class ManyTest(PublishedTest):
         )
 
     @at_browser.NEEDS_BROWSER
-    def test_seven_on_a_telephone(self) -> None:
+    def test_seven_on_a_telephone(self):
         """All seven questions with their numbers are on the first screen, if each has ballots."""
         self.add_lines(
             "cleo " + " ".join(f"{label} 1,2" for label in self.polls),
