@@ -36,6 +36,8 @@ from debvote_tools.text.motions import WORDS
 # closely
 MAX_WORDS = 60
 MAX_COMPOSED = 2_000
+# of more lines nothing is proposed
+MOST_LOOSE = 1_000
 # of more lines that may be ballots none is read; how many usual lines are passed over below a
 # ballot
 MAX_BALLOTS = 200
@@ -86,7 +88,7 @@ def reading_of(lines: Sequence[str], names: Names, *, is_signed: bool = False) -
         return Reading(crowd=crowd)
     whole = text.whole_ballot()
     ballots = {whole: text.own} if whole else dict(text.ballots())
-    if is_proposed := not ballots:
+    if is_proposed := not ballots and len(lines) <= MOST_LOOSE:
         ballots = dict(
             LetterText([*map(names.loose, lines)], names, is_signed).ballots(is_loose=True)
         )
