@@ -172,7 +172,7 @@ class PagesTest(expecting.Expecting):
         self.expect("debvote.1: options without a command", found, sorted(own[""]))
         synopsis = part_of(page, "SYNOPSIS")
         for command in names:
-            wanted = sorted(set(own[command]) - {"--help"})
+            wanted = sorted(set(own.get(command, [])) - {"--help"})
             found = tagged_options(part_of(page, command))
             self.expect(f"debvote.1: options of {command}", found, wanted)
             [line] = re.findall(rf"(?ms)^debvote {command}\n(.*?)(?=^\.br|\Z)", synopsis)
