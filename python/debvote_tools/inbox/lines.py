@@ -71,8 +71,8 @@ LABEL = re.compile(
     rf"(?:^|(?<=[\s:]))([A-Za-z])(?:(?:\s*[:).]\s*|\s+)(?=[\d{DASHES}-])|(?=(?:\d{{1,2}}|[{DASHES}-])\s*[,;]))"
 )
 
-# ranks with other signs between than commas, as people write them: of a line that is to be looked at;
-# hyphens between numbers alone are such signs, with blanks around them only if there are three
+# ranks with other signs between than commas, as people write them, of a line that is to be looked
+# at; hyphens between numbers alone are such signs, with blanks around them only if there are three
 ANY_RANK = rf"(?:\d{{1,2}}|[{DASHES}-])"
 BY_HYPHENS = rf"\d{{1,2}}(?:(?:[{DASHES}-]\d{{1,2}})+|(?:\s*[{DASHES}-]\s*\d{{1,2}}){{3,}})"
 LOOSE = re.compile(rf"(?<![^\s:])(?:({BY_HYPHENS})|{ANY_RANK}(?:[\s,;/.|]+{ANY_RANK})+)(?!\w)")
