@@ -23,7 +23,7 @@ from debvote_tools.text import times
 
 from tests.support.elections import ElectionTest
 from tests.support.letters import read_in
-from tests.support.web_host import ASK, END, FIRST, KEY, MARK, NEEDS_PHP, OWNS, WORD, place_of
+from tests.support.web_host import ASK, FIRST, KEY, MARK, NEEDS_PHP, OWNS, WORD, place_of
 from tests.support.web_host import BoxTest, Liar, answered, ballot, record
 
 HOUR = datetime.timedelta(hours=1)
