@@ -25,7 +25,8 @@ from debvote_tools.call.box import asking_word, page_of, records_file, script_of
 from tests.support import sealing
 
 PHP, STRACE = shutil.which("php"), shutil.which("strace")
-APACHE, MODULES = "/usr/sbin/apache2", "/usr/lib/apache2/modules/mod"
+APACHE = "/usr/sbin/apache2"
+MODULES = "/usr/lib/apache2/modules/mod"
 RULES = "/usr/share/modsecurity-crs/owasp-crs.load"
 NEEDS_PHP = unittest.skipUnless(PHP, "php is not installed")
 
@@ -261,7 +262,8 @@ Include {rules}
 @contextlib.contextmanager
 def behind_rules(host: Host, level: int) -> Iterator[None]:
     """Within this a host is asked through a firewall with the OWASP rules of this level."""
-    own, port = host.port, free_port()
+    own = host.port
+    port = free_port()
     with tempfile.TemporaryDirectory(prefix="debvote-rules-") as folder:
         places = {"folder": folder, "port": port, "at": host.at, "level": level}
         file = pathlib.Path(folder, "apache.conf")

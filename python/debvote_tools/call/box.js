@@ -7,9 +7,8 @@
   const TIME = /^\d{4}-\d\d-\d\dT\d\d:\d\d:\d\dZ$/;
   // the first word of an answer, by its status. After any other nobody knows whether it has arrived
   const ANSWERS = { 200: "received", 400: "bad", 403: "unknown", 405: "bad", 409: "old", 413: "bad", 429: "many", 503: "lost" };
-  // what the rules of firewalls take for SQL; a very long ballot has no other form
-  const LIKE_SQL = /--|\d-|0x[\da-f]{3}|(-[^-]*){12}/i;
-  const MOST_TRIES = 50;
+  // firewalls let fields pass, but not SQL
+  const SQL = /--|\d-|0x|(-[^-]*){12}/i;
   const ARRIVED = ["received", "late"];
   // many hosts refuse other kinds
   const KIND = { "Content-Type": "application/x-www-form-urlencoded" };
@@ -45,7 +44,6 @@
     return { line, link: why ? "" : link, why };
   }
 
-  const isOver = () => Date.now() > Date.parse(until);
   const isSame = (one, other) => one.line === other.line && one.link === other.link;
 
   function show() {
@@ -53,15 +51,16 @@
     const isSending = sent.state === "sending";
     const isSent = isSame(now, sent);
     const isThere = ARRIVED.includes(sent.state);
-    for (const id of ["Unlinked", "Broken", "Worked", "Unsealed"]) byId(id).hidden = now.why !== id;
+    for (const id of ["Unrun", "Unlinked", "Broken", "Worked", "Unsealed"]) byId(id).hidden = now.why !== id;
     button.hidden = now.link === "";
     button.disabled = isSending || (isSent && isThere);
-    // what was sent first must not arrive last; after the end the script may be gone
-    const isOff = isSending || (isSent && sent.state === "unsure" && !isOver());
+    const fate = sent.state === "unsure" && Date.now() > Date.parse(until) ? "over" : sent.state;
+    // what was sent first must not arrive last
+    const isOff = isSending || (isSent && fate === "unsure");
     for (const field of form.querySelectorAll("input, select, button:not(.actions button)")) field.disabled = isOff;
     // what is said is of the ballot before
-    const state = isThere && !isSent && now.link === sent.link ? "changed" : (isSent || isSending) && sent.state;
-    const text = state ? words[state === "unsure" && isOver() ? "over" : state].replace("{time}", spoken(sent.time)).replace("{end}", spoken(until)) : "";
+    const state = isThere && !isSent && now.link === sent.link ? "changed" : (isSent || isSending) && fate;
+    const text = state ? words[state].replace("{time}", spoken(sent.time)).replace("{end}", spoken(until)) : "";
     // else a screen reader reads it again
     if (byId("Sent").textContent !== text) byId("Sent").textContent = text;
   }
@@ -72,7 +71,7 @@
   const hexOf = (buffer) => [...new Uint8Array(buffer)].map((byte) => byte.toString(16).padStart(2, "0")).join("");
 
   // A proof that the link is known, a number, and what is sealed. Each key pair seals once, so the nonce may be zero.
-  async function bodyOf({ line, link, time }) {
+  async function bodyOf({ line, link, time }, tries = 50) {
     const number = hexOf(crypto.getRandomValues(new Uint8Array(16)));
     const proof = hexOf(await subtle.digest("SHA-256", bytesOf(`${mark} ${link}`)));
     const to = Uint8Array.from(atob(seal), (sign) => sign.charCodeAt(0));
@@ -86,15 +85,8 @@
     const gcm = { name: "AES-GCM", iv: new Uint8Array(12), additionalData: bytesOf(`${mark} ${number}`) };
     const data = await subtle.encrypt(gcm, key, bytesOf(`${line}\n${link}\n${time}`.padEnd(length, "\n")));
     const sealed = btoa(String.fromCharCode(...own, ...new Uint8Array(data)));
-    // many firewalls let only fields pass
-    return `box=${page} ${proof} ${number}\n${sealed.replaceAll("+", "-").replaceAll("/", "_")}\n`;
-  }
-
-  // What no firewall refuses, if there is such a one.
-  async function harmlessBodyOf(ballot) {
-    let body = await bodyOf(ballot);
-    for (let tries = 1; tries < MOST_TRIES && LIKE_SQL.test(body); tries += 1) body = await bodyOf(ballot);
-    return body;
+    const body = `box=${page} ${proof} ${number}\n${sealed.replaceAll("+", "-").replaceAll("/", "_")}\n`;
+    return tries && SQL.test(body) ? bodyOf({ line, link, time }, tries - 1) : body;
   }
 
   async function answerTo(body) {
@@ -103,8 +95,7 @@
     try {
       const how = { method: "POST", redirect: "error", credentials: "omit", cache: "no-store", headers: KIND, signal: end.signal };
       const answer = await fetch(box, { ...how, body });
-      const text = await answer.text();
-      const [word, time] = text.trimEnd().split(/:? /);
+      const [word, time] = (await answer.text()).trimEnd().split(/:? /);
       if (ANSWERS[answer.status] !== word || TIME.test(time) !== (word === "received")) return "unsure";
       if (word !== "received") return word === "bad" ? "lost" : word;
       // the vote may have been extended since
@@ -125,7 +116,7 @@
     sent.state = "sending";
     show();
     try {
-      sent.body ??= await harmlessBodyOf(sent);
+      sent.body ??= await bodyOf(sent);
       sent.state = await answerTo(sent.body);
     } catch {
       // nothing was sent
@@ -138,5 +129,4 @@
   addEventListener("hashchange", show);
   new MutationObserver(show).observe(byId("Line"), { childList: true, characterData: true, subtree: true });
   show();
-  byId("Scriptless").hidden = true;
 })();

@@ -53,8 +53,8 @@ def arrival_of(letter: LetterCase) -> str:
 
 # ---- what goes in
 def going_in_words(letters: Sequence[LetterCase], vote: Vote) -> Iterator[str]:
-    """Of each letter whose ballot it is, and how it is read. Of records in a secret vote no more
-    than the names, and not in their order, which who keeps the web host knows.
+    """Of each letter whose ballot it is, and how it is read. Of records in a secret vote the names
+    alone, and not in their order, which the web host knows.
     """
     if vote.questions.is_secret:
         sealed = [letter.elector for letter in letters if letter.read.link]

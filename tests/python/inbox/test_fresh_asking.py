@@ -424,7 +424,8 @@ class Pages(AskedTest):
             said = passed_on(request, self.host)
             return [said.replace(*change, 1) if b"Mozilla" in request else said]
 
-        end, change = b"\r\n\r\n", (b"", b"")
+        end = b"\r\n\r\n"
+        change = b"", b""
         policy = b"\r\nContent-Security-Policy: default-src 'self'"
         with Liar(lie) as between:
             self.begun("--at", between.at, ada=RANKS)

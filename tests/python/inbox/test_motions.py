@@ -254,7 +254,7 @@ class AtDesk(TerminalTest):
             self.assertIn(said, desk.after(typed, CAST))
             desk.after(answer, "Ballot: ")
         self.assertIn("It would be refused: Kim No", desk.after("Kim No\n", "anyway? "))
-        self.end(desk, "n\nq\n")
+        desk.ends("n\nq\n")
         self.assertEqual(self.lines(), ["ada 1,2", "grace-hopper 1,1"])
 
 

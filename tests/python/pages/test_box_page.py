@@ -52,12 +52,12 @@ STATE = """(() => {
   const fields = [...document.querySelectorAll("#Ballot input, #Ballot select")];
   return { said: node("Sent").textContent, line: node("Line").textContent.replaceAll("\\n", " "), seen: seen("Vote"),
     button: seen("Vote") && !node("Vote").disabled, unlinked: seen("Unlinked"), broken: seen("Broken"),
-    worked: seen("Worked"), unsealed: seen("Unsealed"), scriptless: seen("Scriptless"),
+    worked: seen("Worked"), unsealed: seen("Unsealed"), unrun: seen("Unrun"),
     fields: fields.filter((field) => !field.disabled).length };
 })()"""
 # of a page on which nothing is chosen
 EMPTY = {"said": "", "line": "", "fields": 21}
-UNSEEN = "button", "seen", "unlinked", "broken", "worked", "unsealed", "scriptless"
+UNSEEN = "button", "seen", "unlinked", "broken", "worked", "unsealed", "unrun"
 EMPTY |= dict.fromkeys(UNSEEN, False)
 
 
@@ -471,7 +471,7 @@ class Answers(BoxPageTest):
         page = answered(page_with_box(), 200, "Content-Type: text/html", policy)
         host = self.enterContext(Liar(lambda request: [page]))
         self.visit(host.at, PLACES["ada"])
-        self.assert_state(scriptless=True)
+        self.assert_state(unrun=True)
 
     def test_where_the_script_on_the_host_is_gone_after_the_end(self):
         """The form is free, and the same ballot is sent as it was."""
