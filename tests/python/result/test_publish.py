@@ -541,7 +541,8 @@ class OfOpenVotes(OfElections):
         def enter(number, *words):
             self.write("letter.eml", letter.format(*words))
             self.say("add", "letter.eml")
-            self.say("held", number, "--as", f"{words[1]} 3,2,1", "--force", "not-tied")
+            forced = "--force", "not-tied", "--force", "voted-since"
+            self.say("held", number, "--as", f"{words[1]} 3,2,1", *forced)
 
         # the vote is not of the day of a call that was taken back
         self.set_clock("2027-02-20T10:00:00+00:00")
