@@ -46,7 +46,7 @@ WRITES = "pwrite64,ftruncate"
 CUT_OFF = (-signal.SIGKILL, 128 + signal.SIGKILL, 7)
 
 CALLED = datetime.datetime(2026, 11, 20, 9, tzinfo=datetime.UTC)
-END = CALLED + datetime.timedelta(hours=3)
+END = CALLED + datetime.timedelta(minutes=110)
 # few who vote, and few ranks, so that a ballot often comes again
 VOTERS, COUPLE = elections.NAMES[:5], elections.NAMES[3:5]
 RANKS = {
