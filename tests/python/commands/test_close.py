@@ -250,7 +250,7 @@ class Reopen(LettersTest):
         self.assertEqual(self.numbers()["stage"], "published")
         following = "; then debvote-election letters --send sends the letters, or debvote-election letters result writes them\n"
         self.assertTrue(self.told("status").endswith(following))
-        self.refused("reopen", "reason", status=2)
+        self.refused("reopen --because ' '", "reason", status=2)
         self.done("reopen --because x")
         self.refused("reopen --because x", "not closed")
         self.assertEqual(self.numbers()["stage"], "called")
