@@ -12,7 +12,7 @@ from debvote_tools.book.book import Detail, DoneAct
 from debvote_tools.book.change import carried_out
 from debvote_tools.book.queries import Elector, NewEnvelope
 from debvote_tools.cli.arguments import flag, option
-from debvote_tools.cli.console import private, shown_line, shown_text, tell, typed
+from debvote_tools.cli.console import asked_for, shown_line, shown_text, tell, typed
 from debvote_tools.cli.faults import Fault, Status, bad_words
 from debvote_tools.debvote import TABLE
 from debvote_tools.election import Election, History
@@ -317,7 +317,8 @@ def ask_and_cast(desk: Desk, line: Line) -> None:
     checked = desk.vote.checked_lines([meant])
     for ballot in checked:
         if not ballot.can_be_entered:
-            tell(desk.vote.why_not_entered(ballot), NOT_ENTERED)
+            with asked_for(True):
+                tell(desk.vote.why_not_entered(ballot), NOT_ENTERED)
             return
     [elector] = desk.vote.electors_of([checked[0].as_entered])
     desk.enter(checked, elector, asks=True)
@@ -395,13 +396,10 @@ def question(
     """What a ballot would be, or why it or one of its answers would be refused; and what is
     asked.
     """
-    shown = [*change_words(lines[0])]
-    for line in lines:
-        if finding := line.lasting:
-            refused = private(f"{shown_line(line.as_entered)}: {finding.word}: {finding.hint}")
-            shown += [f"It would be refused: {refused}", desk.vote.right_words()]
-        else:
-            shown.append(desk.vote.in_words(line))
+    with asked_for(True):
+        shown = [*change_words(lines[0])]
+        for line in lines:
+            shown += typed_words(desk.vote, line)
     if not (ballots := [line for line in lines if line.is_ballot]):
         return shown, "It would not count. Enter it anyway?"
     if is_late:
@@ -409,6 +407,14 @@ def question(
     elif elector is not None:
         shown += earlier_words(desk.vote, ballots[0], elector)
     return shown, "Enter it?"
+
+
+def typed_words(vote: Vote, line: CheckedLine) -> Iterator[str]:
+    if finding := line.lasting:
+        refused = f"{shown_line(line.as_entered)}: {finding.word}: {finding.hint}"
+        yield from (f"It would be refused: {refused}", vote.right_words())
+    else:
+        yield vote.in_words(line)
 
 
 def earlier_words(vote: Vote, ballot: CheckedLine, elector: int) -> Iterator[str]:
@@ -423,5 +429,5 @@ def earlier_words(vote: Vote, ballot: CheckedLine, elector: int) -> Iterator[str
         words = f"{ballot.voter} has a ballot, which will be replaced"
         yield vote.with_answers(words, answers_text(replaced))
     if stays:
-        words = f"These earlier answers of {ballot.voter} stay"
+        words = f"The earlier answers of {ballot.voter} to {ENGLISH.joined(sorted(stays))} stay"
         yield vote.with_answers(words, answers_text(stays))

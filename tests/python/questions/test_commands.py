@@ -37,7 +37,7 @@ class Desk(QuestionsTest):
         )
         shown = desk.after("Ada a: 1, 2 b) 1, 2,3\n", ASKED)
         self.assertIn(
-            f"ada:\n  {YES}\n  {CHAIR}\nada has a ballot, which will be replaced:\n  {NO}\nThese earlier answers of ada stay:\n  C (A new roof): Slate",
+            f"ada:\n  {YES}\n  {CHAIR}\nada has a ballot, which will be replaced:\n  {NO}\nThe earlier answers of ada to C stay:\n  C (A new roof): Slate",
             shown,
         )
         self.assertEqual(desk.after("y\n", "Ballot: "), "y\n2 A replaced, B counted  ada\nBallot: ")
@@ -339,7 +339,7 @@ class TakenAway(QuestionsTest):
         self.add_lines("ada A 1,2 B 1,2,3", "ada A 2,1")
         self.assertIn(f" (A replaced):\n    {YES}\n    {CHAIR}\n", self.told("show", "ada"))
         said = self.told("strike", "2", "--because", "it was ben's", "--yes")
-        self.assertIn(f"The current ballot of ada:\n  {YES}\n  {CHAIR}\n", said)
+        self.assertIn(f"Another ballot of ada counts:\n  {YES}\n  {CHAIR}\n", said)
 
     def test_a_letter_whose_later_answer_is_taken_away_is_judged_anew(self):
         """`strike` and `undo` name it, and the next `add` takes it whole."""
