@@ -246,6 +246,9 @@ class Book:
         """One act: its rows are committed at the end, or none after an exception. Within the act
         nobody is asked and no program runs.
         """
+        # it may have been raised where Python drops it
+        if ENDED:
+            raise ENDED[-1]
         self.note().make_ready()
         with self.transaction("BEGIN IMMEDIATE"):
             before = self.last_act()

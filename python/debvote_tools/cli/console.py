@@ -51,7 +51,8 @@ class OutputFailed(Fault):
         self.is_closed_pipe = is_closed_pipe
 
 
-# what the handler of a signal has raised that ends the program: within a query SQLite drops it
+# what the handler of a signal has raised that ends the program: within a query SQLite drops it, and
+# Python in what it calls by itself, as when an object is deleted
 ENDED = list[BaseException]()
 
 
