@@ -17,6 +17,7 @@ from debvote_tools.call.secret import aliased, demand_no_code
 from debvote_tools.cli.arguments import Acting, flag, given, option
 from debvote_tools.cli.console import act_time, count_of, is_terminal, is_yes, tell
 from debvote_tools.cli.faults import Fault, bad_words, kept_in, stop_at
+from debvote_tools.commands.backup import WHO_HAS_IT
 from debvote_tools.commands.check import (
     Checked,
     checked,
@@ -482,7 +483,7 @@ def box_in_words(election: Election, data: CallData) -> Iterator[str]:
     asked_at = last_box(election.history()).get("at")
     if asked_at not in (None, data.at):
         yield f"Note: the page at {asked_at} still takes ballots, which add --box fetches no more: remove its {SCRIPT}, then fetch its file {records_file(data.box_key)} by FTP, and add it: {election.command('add', 'FILE')}."
-    yield f"Make a copy of the book now: {election.command('backup', 'FILE')}. Without the book nobody can open what lies on the web host."
+    yield f"Make a copy of the book now: {election.command('backup', 'FILE')}. Without the book nobody can open what lies on the web host; {WHO_HAS_IT}."
     yield f"To ask for the ballots of the page each hour, by cron: {cron_line(election)}"
     first = f"run {ask}, then " if asked_at == data.at else ""
     yield f"{first}upload the files of {election.path(CALL)} to {data.at}, {SCRIPT} too"
