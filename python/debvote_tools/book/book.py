@@ -85,6 +85,7 @@ ActName = (
 #   roll, addresses: electors, how many; codes: codes, how many, and on_roll
 #   call, extend, announce: to, to_name, at, as the command line names them; box, names, signed,
 #     keyring, codes_on_roll, quorum_votes; call, extend: until, zone
+#   call: offset, of the clock of the computer from UTC, in seconds
 #   call, announce, publish: agreed, the checksums of texts that a secret vote may make public
 #   take back: call, its act; codes, how many have lapsed
 #   letters: letters, and box, what the web box had; add: files, lines, letters,

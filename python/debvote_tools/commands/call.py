@@ -134,6 +134,7 @@ def call_first(election: Election, arguments: Arguments) -> None:
     if arguments.box and draft.questions.is_secret:
         detail["slips"] = arguments.slips or asked_slips()
     detail |= {
+        "offset": times.offset_here(),
         "names": arguments.names,
         "box": arguments.box,
         "codes_on_roll": history.has_codes_on_roll,

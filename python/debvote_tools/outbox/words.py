@@ -6,7 +6,6 @@ quotes a letter goes in.
 """
 
 import dataclasses
-import datetime
 from collections.abc import Collection, Iterator, Sequence
 from typing import NamedTuple
 
@@ -211,9 +210,7 @@ class Composer:
         return " ".join(sentences)
 
     def became(self, fate: Fate) -> str:
-        """Says what became of something that came, with its time in the zone in which the end was
-        announced.
-        """
+        """Says what became of something that came, with its time in the zone of the vote."""
         letter = fate.letter
         if letter is None:
             sentence = (OF_BALLOT | AT_THE_END if self.is_over else OF_BALLOT)[fate.became]
@@ -225,10 +222,9 @@ class Composer:
             sentence = (OF_RECORD if letter.read.link else OF_LETTER)[fate.is_own][is_done]
         # the web host has another time, and can't change this one
         came = letter or fate.came_by
-        until = self.call_data.until
         time = (came and came.read.sent or fate.time).replace(microsecond=0)
-        zone = until.tzinfo if until else datetime.UTC
-        return self.language.say(sentence, time=time_in_words(time.astimezone(zone), self.language))
+        told = time.astimezone(self.call_data.zone)
+        return self.language.say(sentence, time=time_in_words(told, self.language))
 
     def more_of(self, fate: Fate) -> Iterator[str]:
         """What of a ballot does not count, and how it came."""

@@ -5,6 +5,7 @@ import hashlib
 import os
 import re
 import subprocess
+import unittest.mock
 
 from debvote_tools.call.secret import alias_of
 from debvote_tools.election import LETTER_TEXT
@@ -47,6 +48,17 @@ class CallTest(CalledTest):
 
 
 class Open(CallTest):
+    def test_without_an_end_times_are_in_the_zone_of_the_computer(self):
+        """In that of the call, wherever a later command runs."""
+        with unittest.mock.patch.dict(os.environ, {"TZ": "Asia/Kolkata"}):
+            self.told("call --to vote@club.example")
+        self.cast("ada 1,2,3,4")
+        for words in ("status", "show ada", "log"):
+            self.assertIn("2026-11-27 14:30:00 UTC+05:30", self.told(words))
+        self.told("letters receipts")
+        [receipt] = (self.folder / "letters/receipts").rglob("ada.eml")
+        self.assertIn("14:30 (UTC+05:30)", receipt.read_text())
+
     def test_folder_and_seal(self):
         said = self.told(f"call {UNTIL} --to vote@club.example --at https://club.example/vote/")
         folder = self.folder / "call"

@@ -175,7 +175,9 @@ class Clicks(boxes.BoxElectionTest):
         self.begun(ben=RANKS)
         self.add_box()
         # it has the key by which this click can be opened, too
-        has_key = "whoever has a copy opens all ballots of the page, also those to come, and can vote"
+        has_key = (
+            "whoever has a copy opens all ballots of the page, also those to come, and can vote"
+        )
         self.assertIn(has_key, self.told("backup", self.scratch / "copy.db"))
         self.new_address("ada")
         self.upload()

@@ -985,7 +985,7 @@ class Secret(OutTest):
         found += self.written("closed").values()
         rows = self.book.rows("SELECT alias FROM elector_state WHERE alias <> ''")
         self.done("publish", "--yes", "--force", "--because", "they were asked")
-        self.done("export", "out")
+        self.done("export", "--yes", "out")
         private = self.run_program("sh", "-c", "cd out && sha256sum *").output
         results = self.texts("result")
         for said in (
