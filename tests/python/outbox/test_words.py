@@ -311,12 +311,18 @@ class CallLetter(unittest.TestCase):
             self.assertEqual([part in text for part in (*parts, shows)], found)
         self.assertIn(parts[1], call_page(of_box.call_data).decode())
         for has_slips, said in (
-            (True, "Your code alone shows a change, in a copy"),
+            (True, "You get a slip with a secret code. That alone shows a change, in a copy"),
             (False, "Nothing would show you either."),
         ):
             secret = vote(box_key=b"x", has_aliases=True, has_slips=has_slips)
             text = is_read(secret.call_letter(ADA, is_extension=False).text)
             self.assertIn(limit + said, text)
+            # it seals the ballot, and writes no line
+            self.assertIn("The page of the vote, on which you vote, and on which the", text)
+            self.assertNotIn("which writes the line", text)
+            # it does not say what came
+            receipt = is_read(secret.receipt(ADA, all_that_came()).text)
+            self.assertIn("If you have not sent this, answer at once. You vote under", receipt)
 
     def test_what_one_letter_says_and_another_does_not(self):
         # the texts are in the call on paper, and not in what follows it; a word is an answer to a
@@ -409,6 +415,16 @@ class Printed(unittest.TestCase):
         letters = [(name, [[("Hello", "paragraph")]]) for name in ("Ada", "Ben", "Cleo")]
         for is_secret, sides in ((False, 3), (True, 6)):
             self.assertEqual(self.sides(is_secret=is_secret, letters=letters), sides)
+
+    def test_without_texts_none_are_too_long(self):
+        labels = "ABCDEFG"
+        questions = Questions(dict.fromkeys(labels, POLL), "Meeting")
+        now = vote(
+            questions=questions, quorum_votes=dict.fromkeys(labels, 1), letter_text="x\n" * 60
+        )
+        text = now.call_letter(GUS, is_extension=False).text
+        self.assertGreater(text.count("\n"), 112)
+        self.assertNotIn(TEXTS, is_read(text))
 
     def test_a_letter_has_at_most_two_sides_and_the_texts_or_where_they_are(self):
         """With twelve options, no page, a secret code, and 600 characters of the secretary's own;
