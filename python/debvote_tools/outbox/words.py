@@ -25,6 +25,8 @@ PACKAGE = "debvote_tools.outbox"
 
 # how many lines two sides of A4 have, as letter.css prints them
 TWO_SIDES = 112
+# and how many of these the QR code of a link takes beside its words
+OF_LINK = 4
 
 # the letters that go out, as the command and the book name them, with their subjects
 SUBJECTS = marked(
@@ -140,7 +142,8 @@ class Composer:
                 are_texts_elsewhere=are_texts_elsewhere,
                 earlier=earlier,
             )
-            if not is_on_paper(elector) or letter.text.count("\n") <= TWO_SIDES:
+            room = TWO_SIDES - (OF_LINK if self.call_data.at else 0)
+            if not is_on_paper(elector) or letter.text.count("\n") <= room:
                 break
         return letter
 

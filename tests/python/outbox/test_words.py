@@ -21,7 +21,7 @@ from debvote_tools.inbox.fates import REFUSED, Fate
 from debvote_tools.inbox.letter_text import ReadLine
 from debvote_tools.inbox.reasons import Reason, ReasonWithValues, for_elector
 from debvote_tools.inbox.rules import LetterOutcome
-from debvote_tools.outbox.letter_folder import message, rows_to_print
+from debvote_tools.outbox.letter_folder import message, picture_of, rows_to_print
 from debvote_tools.outbox.words import OF_BALLOT, PACKAGE, SUBJECTS, Composer, OutgoingText
 from debvote_tools.poll.questions import Questions
 from debvote_tools.poll.sealed import SealedPoll
@@ -403,7 +403,14 @@ class Printed(unittest.TestCase):
         style = resources(PACKAGE, "letter.css")
         language = language_of("en")
         page = render_page(
-            PACKAGE, "print.html", language, style=style, title="Spring", sender="", **how
+            PACKAGE,
+            "print.html",
+            language,
+            style=style,
+            title="Spring",
+            sender="",
+            picture_of=picture_of,
+            **how,
         )
         pathlib.Path(folder, "page.html").write_bytes(page)
         words = f"--headless --no-sandbox --disable-gpu --user-data-dir={folder}/of-browser --print-to-pdf={folder}/page.pdf {folder}/page.html"
@@ -412,7 +419,7 @@ class Printed(unittest.TestCase):
 
     def test_no_letter_of_a_secret_vote_is_on_the_back_of_another(self):
         """Whether they are printed on one side of the paper or on both."""
-        letters = [(name, [[("Hello", "paragraph")]]) for name in ("Ada", "Ben", "Cleo")]
+        letters = [(name, [[("Hello", "paragraph")]], None) for name in ("Ada", "Ben", "Cleo")]
         for is_secret, sides in ((False, 3), (True, 6)):
             self.assertEqual(self.sides(is_secret=is_secret, letters=letters), sides)
 
@@ -465,10 +472,11 @@ class Printed(unittest.TestCase):
                     break
                 longest = letter
             found = longest.text.count("forty tents"), longest.text.count("\n")
-            self.assertEqual(found, (lines - 1, 112), code)
+            self.assertEqual(found, (lines - 1, 112 - 4), code)
             printed.append(longest)
-        letters = [("Ada", rows_to_print(letter.text)) for letter in printed]
-        boxes = [kind for _, parts in letters for _, kind in parts[2]].count("option")
+        link = f"{AT}#{GUS.name}/{GUS.mark}"
+        letters = [("Ada", rows_to_print(letter.text), link) for letter in printed]
+        boxes = [kind for _, parts, _ in letters for _, kind in parts[2]].count("option")
         self.assertEqual(boxes, (12 + 3) * len(LANGUAGES))
         self.assertEqual(self.sides(is_secret=False, letters=letters), 2 * len(letters))
 
