@@ -24,8 +24,10 @@ from debvote_tools.commands.check import (
     demand_read,
     faults_of_ballots,
     notes_on,
+    read_roll,
 )
 from debvote_tools.commands.codes import CODES, SLIPS, write_slips
+from debvote_tools.commands.roll import keep_electors, roll_in_words
 from debvote_tools.election import (
     CALL,
     KEYRING,
@@ -112,7 +114,18 @@ def call(election: Election, arguments: Arguments) -> None:
 
 
 # ---- the acts
+def roll_first(election: Election) -> None:
+    """Reads the list of members if nobody has: `roll` is for whoever looks at it before."""
+    if queries.all_electors(election.book):
+        return
+    history = election.history()
+    members = read_roll(election, history)
+    keep_electors(election.book, members, history.last.number)
+    tell(*roll_in_words(members, election.language))
+
+
 def call_first(election: Election, arguments: Arguments) -> None:
+    roll_first(election)
     history = election.history()
     faults = list[Fault]()
     detail = announced(arguments, history, faults)

@@ -99,6 +99,19 @@ class Open(CallTest):
             self.assertEqual([who for who in people if who in text], shown)
             self.done("call --take-back")
 
+    def test_the_list_is_read_if_nobody_has_read_it(self):
+        fresh = self.folder / "fresh"
+        self.done("new fresh")
+        self.write("fresh/poll.toml", self.poll)
+        self.refused("call --folder fresh", "members.csv: ")
+        self.write("fresh/members.csv", MEMBERS)
+        said = self.told("call --folder fresh")
+        self.assertTrue(
+            said.startswith("9 electors, each with the name on the roll:\n  ada: "), said
+        )
+        self.assertIn("\nChecksum of the poll: ", said)
+        self.assertEqual(self.told(f"status --electors --folder {fresh}").count("\n"), 9)
+
     def test_the_list_has_to_be_the_one_that_was_read(self):
         for changed in (f"{MEMBERS}Jan,jan@club.example\n", MEMBERS.replace("ben@", "b@"), KEYS):
             self.write("members.csv", changed)
