@@ -102,6 +102,7 @@ complete -c debvote-election -n "__fish_seen_subcommand_from publish" -l yes -d 
 complete -c debvote-election -n "__fish_seen_subcommand_from publish" -l moved -d "Go on although the election was moved here, or an older copy was restored; the result page says so."
 complete -c debvote-election -n "__fish_seen_subcommand_from publish" -l because -x -d "The reason, in your words, for --moved or --force."
 complete -c debvote-election -n "__fish_seen_subcommand_from publish" -a "(__fish_complete_directories)"
+complete -c debvote-election -n "__fish_seen_subcommand_from show" -l yes -d "In a secret vote: show the ballots without asking."
 complete -c debvote-election -n "__fish_seen_subcommand_from undo" -l yes -d "Take it back without asking."
 complete -c debvote-election -n "__fish_seen_subcommand_from undo" -l moved -d "Go on although the election was moved here, or an older copy was restored; the result page says so."
 complete -c debvote-election -n "__fish_seen_subcommand_from undo" -l because -x -d "The reason, in your words, for --moved or --force."
@@ -113,4 +114,5 @@ complete -c debvote-election -n "__fish_seen_subcommand_from reopen" -l because 
 complete -c debvote-election -n "__fish_seen_subcommand_from reopen" -l moved -d "Go on although the election was moved here, or an older copy was restored; the result page says so."
 complete -c debvote-election -n "__fish_seen_subcommand_from log" -l check -d "Check the chain of digests against everything in the book."
 complete -c debvote-election -n "__fish_seen_subcommand_from log" -l json -d "Print each act with all its detail as JSON, for programs."
+complete -c debvote-election -n "__fish_seen_subcommand_from export" -l yes -d "In a secret vote: write the ballots without asking."
 complete -c debvote-election -n "__fish_seen_subcommand_from export" -a "(__fish_complete_directories)"

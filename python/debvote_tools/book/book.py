@@ -85,6 +85,7 @@ ActName = (
 #   roll, addresses: electors, how many; codes: codes, how many, and on_roll
 #   call, extend, announce: to, to_name, at, as the command line names them; box, names, signed,
 #     keyring, codes_on_roll, quorum_votes; call, extend: until, zone
+#   call: offset, of the clock of the computer from UTC, in seconds
 #   call, announce, publish: agreed, the checksums of texts that a secret vote may make public
 #   take back: call, its act; codes, how many have lapsed
 #   letters: letters, and box, what the web box had; add: files, lines, letters,
@@ -162,9 +163,9 @@ class Book:
         self.read_acts = list[DoneAct]()
         # how many acts of each name were read
         self.names = collections.Counter[str]()
-        # what `queries.all_electors` has read, and when; the acts of this process, as `act 7 (add)`
+        # what `queries.all_electors` has read, and when; the names of the acts of this process
         self.electors_at: tuple[object, list[Any]] = (None, [])
-        self.own_acts: list[str] = []
+        self.own_acts = dict[int, ActName]()
         # the label of the question that is shown alone
         self.label = ""
 
@@ -246,6 +247,9 @@ class Book:
         """One act: its rows are committed at the end, or none after an exception. Within the act
         nobody is asked and no program runs.
         """
+        # it may have been raised where Python drops it
+        if ENDED:
+            raise ENDED[-1]
         self.note().make_ready()
         with self.transaction("BEGIN IMMEDIATE"):
             before = self.last_act()
@@ -280,7 +284,7 @@ class Book:
             cure = "see debvote-election status, which tells the last act"
             done = f"nobody knows whether act {act.number} was done"
             raise Fault(self.path, reason, cure, Status.BAD_OUTPUT, done) from None
-        self.own_acts.append(f"act {act.number} ({act.name})")
+        self.own_acts[act.number] = act.name
         return digest
 
     def is_there(self, act: int) -> bool:

@@ -39,6 +39,10 @@ class Change:
         if self.shown:
             tell(*self.shown)
 
+    def ask(self) -> bool | None:
+        """Whether it is agreed to; None at the end of the input."""
+        return is_yes(self.question)
+
     def declined(self, _: bool | None) -> None:
         """What follows if the answer is no; None is the end of the input."""
         raise Fault(None, "you did not say yes", "run the command again when you agree")
@@ -97,7 +101,7 @@ def carried_out(book: Book, plan: Callable[[], Planned]) -> Planned:
             change.show()
             if change.is_nothing:
                 return change
-            if change.question and not (answer := is_yes(change.question)):
+            if change.question and not (answer := change.ask()):
                 change.declined(answer)
                 return change
             shown = change

@@ -8,6 +8,10 @@ from debvote_tools.commands.export import demand_new
 from debvote_tools.election import Election
 
 
+# what the key of the box gives, which is in each copy since the call
+WHO_HAS_IT = "whoever has a copy opens all ballots of the page, also those to come, and can vote in each name"
+
+
 class Arguments(Options):
     file: str = positional("FILE", "The new file, best on another disk")
 
@@ -22,3 +26,5 @@ def backup(election: Election, arguments: Arguments) -> None:
     tell(
         f"Copied the book up to act {last} into {target}. Only you can read it; it holds everything that came or was done."
     )
+    if election.history().announced("box"):
+        tell(f"Keep it as safe as the book itself: {WHO_HAS_IT}.")

@@ -6,8 +6,7 @@ quotes a letter goes in.
 """
 
 import dataclasses
-import datetime
-from collections.abc import Iterator, Sequence
+from collections.abc import Collection, Iterator, Sequence
 from typing import NamedTuple
 
 from debvote_tools.book.queries import Elector
@@ -26,6 +25,8 @@ PACKAGE = "debvote_tools.outbox"
 
 # how many lines two sides of A4 have, as letter.css prints them
 TWO_SIDES = 112
+# and how many of these the QR code of a link takes beside its words
+OF_LINK = 4
 
 # the letters that go out, as the command and the book name them, with their subjects
 SUBJECTS = marked(
@@ -115,6 +116,8 @@ class Composer:
 
     call_data: CallData
     is_over: bool
+    # the electors whose last ballot nobody can open
+    lost: Collection[str] = ()
 
     @property
     def language(self) -> Language:
@@ -139,19 +142,18 @@ class Composer:
                 are_texts_elsewhere=are_texts_elsewhere,
                 earlier=earlier,
             )
-            if not is_on_paper(elector) or letter.text.count("\n") <= TWO_SIDES:
+            room = TWO_SIDES - (OF_LINK if self.call_data.at else 0)
+            if not is_on_paper(elector) or letter.text.count("\n") <= room:
                 break
         return letter
 
-    def reminder(
-        self, elector: Elector, fates: Sequence[Fate], *, is_lost: bool = False
-    ) -> OutgoingText:
+    def reminder(self, elector: Elector, fates: Sequence[Fate]) -> OutgoingText:
         """A letter to an elector without a ballot that counts, or whose last one is lost. If a line
         or a letter of theirs has come, it says what became of it, and that they can send a right
         line now.
         """
         has_come = any(fate.is_own or fate.envelope for fate in fates)
-        return self.letter("reminders", elector, fates=fates, has_come=has_come, is_lost=is_lost)
+        return self.letter("reminders", elector, fates=fates, has_come=has_come)
 
     def receipt(self, elector: Elector, fates: Sequence[Fate]) -> OutgoingText:
         """What became of what came from an elector. It has the right line if the last of it was
@@ -191,6 +193,7 @@ class Composer:
             greeting=self.language.say("Dear {name},", name=name),
             fate_in_words=self.fate_in_words,
             is_on_paper=is_on_paper(elector),
+            is_lost=elector.name in self.lost,
             # who has no address may not see the page, either
             is_whole=call.at is None or is_on_paper(elector),
             **values,
@@ -210,9 +213,7 @@ class Composer:
         return " ".join(sentences)
 
     def became(self, fate: Fate) -> str:
-        """Says what became of something that came, with its time in the zone in which the end was
-        announced.
-        """
+        """Says what became of something that came, with its time in the zone of the vote."""
         letter = fate.letter
         if letter is None:
             sentence = (OF_BALLOT | AT_THE_END if self.is_over else OF_BALLOT)[fate.became]
@@ -224,10 +225,9 @@ class Composer:
             sentence = (OF_RECORD if letter.read.link else OF_LETTER)[fate.is_own][is_done]
         # the web host has another time, and can't change this one
         came = letter or fate.came_by
-        until = self.call_data.until
         time = (came and came.read.sent or fate.time).replace(microsecond=0)
-        zone = until.tzinfo if until else datetime.UTC
-        return self.language.say(sentence, time=time_in_words(time.astimezone(zone), self.language))
+        told = time.astimezone(self.call_data.zone)
+        return self.language.say(sentence, time=time_in_words(told, self.language))
 
     def more_of(self, fate: Fate) -> Iterator[str]:
         """What of a ballot does not count, and how it came."""
