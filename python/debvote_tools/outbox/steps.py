@@ -347,9 +347,8 @@ def ending(now: Now) -> Iterator[Due]:
     """The close and what follows it, or what has to come before."""
     history = now.history
     if not history.is_closed:
-        yield Due(Step.CLOSE) if now.is_over or not history.until else Due(
-            Step.WAIT, time=history.until
-        )
+        is_to_come = history.ends_after(now.time) and not history.closes
+        yield Due(Step.WAIT, time=history.until) if is_to_come else Due(Step.CLOSE)
         return
     if not history.publications:
         yield from (Due(Step.COUNT), Due(Step.PUBLISH))

@@ -622,7 +622,9 @@ class Remembered(SendTest):
         moved = ("--moved", "--because", "a rehearsal")
         ended = self.election("letters", "reminders", "--send", "--yes", *moved)
         self.assert_fault(ended, 2, "no server is named", "(moved) was done")
-        said = "7 reminders are not sent: debvote-election letters reminders --send --server HOST; or"
+        said = (
+            "7 reminders are not sent: debvote-election letters reminders --send --server HOST; or"
+        )
         self.assertIn(said, self.told("letters", "reminders", "--yes"))
         self.server = first
         self.assert_sent("reminders")
