@@ -1,7 +1,7 @@
 """What comes next in an election: its steps as values, of which each command prints the first.
 
 A step is due by the book, by what this machine noted, and by the clock. Each has an end that the
-secretary can reach: an act, an asking of the web box, or that she says it is done (`status --done`).
+secretary can reach: an act, an asking of the web box, or that she says so (`status --done`).
 """
 
 import contextlib
@@ -379,8 +379,8 @@ def ties_of(election: Election, history: History) -> dict[str, Sequence[str]]:
 
 # ---- in words
 def tell_next(election: Election, *taken: Step, say: Callable[..., None] = tell) -> None:
-    """The last line of a command. `taken` are steps that it takes itself, and that the book does not
-    keep.
+    """The last line of a command. `taken` are steps that it takes itself, and that the book does
+    not keep.
     """
     due = what_next(election, election.history())
     say(next_line(election, [one for one in due if one.step not in taken]))

@@ -61,7 +61,7 @@ class Followed:
         # the electors of whom something came, or was taken out, whom no receipt has told of it; those
         # whose letters were refused once, and come later; and the letters that came
         self.touched, self.refused = set[str](), set[str]()
-        self.letters, self.backups = list[bytes](), 0
+        self.letters, self.backups, self.moves = list[bytes](), 0, 0
         # a part of each subject that an elector has to get
         self.due = {name: list[str]() for name in self.addresses}
         self.pass_time(datetime.timedelta(minutes=1))
@@ -157,7 +157,8 @@ class Followed:
                 parts.append("Vote" if is_whole else "Vote ends later: ")
             return
         name = self.chance.choice(NAMES[:-1])
-        self.addresses[name] = f"{name}@{len(self.server.taken)}.example"
+        self.moves += 1
+        self.addresses[name] = f"{name}@{self.moves}.example"
         self.write("members.csv", self.members)
         self.done("roll", "--yes")
         self.due[name] = ["Vote: "]
