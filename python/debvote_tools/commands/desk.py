@@ -23,7 +23,7 @@ from debvote_tools.inbox.vote import IN_ORDER, CheckedLine, Vote, change_words, 
 from debvote_tools.poll.plain_names import alike
 from debvote_tools.text.ballots import answers_text, ranks_by_label
 from debvote_tools.text.language import ENGLISH
-from debvote_tools.text.motions import Words, with_initials
+from debvote_tools.text.motions import Words
 
 QUIT = b"q"
 # enters what does not count: a yes comes by habit
@@ -95,7 +95,8 @@ class Desk:
         """
         names = self.vote.names
         if self.vote.label or not names.labels:
-            self.vote.names = dataclasses.replace(names, words=with_initials(names.words))
+            letters = {word[0]: ranks for word, ranks in names.words.items()}
+            self.vote.names = dataclasses.replace(names, words={**names.words, **letters})
         return self.names.words if self.vote.label else self.vote.names.words
 
     def next_typed(self) -> bytes | None:
