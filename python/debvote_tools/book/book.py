@@ -236,10 +236,18 @@ class Book:
                     self.connection.execute(ONE_QUESTION.format(view=view, label=label))
                 self.label = label or before
                 yield
-            finally:
-                for view in views:
-                    self.connection.execute(f"DROP VIEW IF EXISTS temp.{view}")
-                self.label = before
+            except BaseException:
+                # of a damaged book this fails, too, and what failed within is told
+                with contextlib.suppress(sqlite3.Error):
+                    self.show_all(views, before)
+                raise
+            self.show_all(views, before)
+
+    def show_all(self, views: Sequence[str], label: str) -> None:
+        """Ends that one question is seen alone; the label is that of before."""
+        for view in views:
+            self.connection.execute(f"DROP VIEW IF EXISTS temp.{view}")
+        self.label = label
 
     # ---- acts
     @contextlib.contextmanager
