@@ -213,10 +213,17 @@ WHERE kind = 'receipts' AND (
 )
 """
 # the electors on the list with envelopes after an act, ?2, of which no receipt tells as they are
-# now
+# now. What came before the last receipt of an elector is told, unless they changed since the call
 UNTOLD = f"""
-SELECT DISTINCT elector FROM entered JOIN elector_now USING (elector) WHERE position IS NOT NULL
-AND max(entered.act, coalesce(struck, 0)) > ?2 AND (elector, 'envelope', envelope, struck IS NOT NULL) NOT IN ({TOLD})
+WITH receipt AS (
+  SELECT elector, max(detail ->> 'for_act') AS act FROM sent WHERE kind = 'receipts' AND state = 'written'
+  AND elector NOT IN (SELECT elector FROM elector_state WHERE act > ?1) GROUP BY elector
+), fresh AS MATERIALIZED (
+  SELECT elector, envelope, struck FROM entered LEFT JOIN receipt USING (elector)
+  WHERE max(entered.act, coalesce(struck, 0)) > max(?2, coalesce(receipt.act, 0))
+)
+SELECT DISTINCT elector FROM fresh JOIN elector_now USING (elector) WHERE position IS NOT NULL
+AND (elector, 'envelope', envelope, struck IS NOT NULL) NOT IN ({TOLD} AND elector IN (SELECT elector FROM fresh))
 """
 
 
@@ -233,7 +240,7 @@ def told_letters(book: Book, call: int) -> set[tuple[int, int]]:
 # the letters of a kind since an act, ?2, but for those on paper, that no server took, and none
 # refused for good
 UNSENT = """
-SELECT elector, detail ->> 'about' FROM (
+SELECT elector, detail ->> 'for_act', detail ->> 'about' FROM (
   SELECT elector, act, state, detail, max(sent) FROM sent WHERE kind = ?1 AND elector IN (
     SELECT elector FROM sent WHERE kind = ?1 GROUP BY elector
     HAVING total(state = 'written') > total(state = 'taken') AND max(act) > ?2
@@ -242,6 +249,12 @@ SELECT elector, detail ->> 'about' FROM (
 """
 
 
-def unsent(book: Book, kind: str, after: int) -> list[tuple[int, list[About]]]:
-    """The electors of these, and what each is about."""
-    return [(elector, json.loads(about)) for elector, about in book.rows(UNSENT, kind, after)]
+def unsent(book: Book, kind: str, after: int) -> list[tuple[int, int, list[About]]]:
+    """Of each the elector, the act that it belongs to, and what it is about."""
+    rows = book.rows(UNSENT, kind, after)
+    return [(elector, act, json.loads(about)) for elector, act, about in rows]
+
+
+def last_act_of(book: Book, kind: str) -> int:
+    """The act that the last letters of a kind belong to, of which there are some."""
+    return int(book.value("SELECT max(detail ->> 'for_act') FROM sent WHERE kind = ?", kind))

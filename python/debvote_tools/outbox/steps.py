@@ -268,7 +268,7 @@ def unsent_receipts(now: Now) -> list[int]:
     """The electors; none for a receipt about a letter in whose place there is a ballot now."""
     return [
         elector
-        for elector, about in outgoing.unsent(now.book, "receipts", now.done_until(Step.LETTERS))
+        for elector, _, about in outgoing.unsent(now.book, "receipts", now.done_until(Step.LETTERS))
         if any(
             what == "envelope" or (elector, number) in now.letters_to_tell
             for what, number, _ in about
@@ -282,12 +282,11 @@ def unsent_reminders(now: Now) -> list[int]:
     since = [act.number - 1 for act in runs if now.time - act.time < DAY]
     if not since:
         return []
-    after = max(since[0], now.done_until(Step.LETTERS))
+    unsent = outgoing.unsent(now.book, "reminders", max(since[0], now.done_until(Step.LETTERS)))
+    last = outgoing.last_act_of(now.book, "reminders")
     counting = queries.what_counts(now.book)
     silent = {elector.number for elector in now.electors if elector.name not in counting}
-    return [
-        elector for elector, _ in outgoing.unsent(now.book, "reminders", after) if elector in silent
-    ]
+    return [elector for elector, act, _ in unsent if act == last and elector in silent]
 
 
 def left_of(now: Now, kind: str, for_act: int) -> list[Elector]:
@@ -386,10 +385,10 @@ def tell_next(election: Election, *taken: Step, say: Callable[..., None] = tell)
     say(next_line(election, [one for one in due if one.step not in taken]))
 
 
-def next_line(election: Election, due: Sequence[Due]) -> str:
+def next_line(election: Election, due: Sequence[Due], before: str = "") -> str:
     """The next step; with those before it that may be done already."""
     first = next(number for number, one in enumerate(due, start=1) if one.step not in BESIDE)
-    return f"Next: {'; then '.join(in_words(election, one) for one in due[:first])}"
+    return f"Next: {before}{'; then '.join(in_words(election, one) for one in due[:first])}"
 
 
 def words_of(election: Election, *steps: Step) -> list[str]:

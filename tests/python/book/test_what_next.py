@@ -174,7 +174,7 @@ class Followed:
         said = self.done("status").output
         for place in itertools.count():
             self.assertLess(place, MOST, said)
-            [following] = re.findall("(?m)^(?:This is .*)?Next: (.*)$", said)
+            [following] = re.findall("(?m)^Next: (.*)$", said)
             if following.startswith(("until ", "nothing is left")):
                 break
             words = shlex.split(COMMAND.search(following)[1])
