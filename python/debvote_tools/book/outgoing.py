@@ -240,7 +240,7 @@ def told_letters(book: Book, call: int) -> set[tuple[int, int]]:
 # the letters of a kind since an act, ?2, but for those on paper, that no server took, and none
 # refused for good
 UNSENT = """
-SELECT elector, detail ->> 'for_act', detail ->> 'about' FROM (
+SELECT elector, detail ->> 'about' FROM (
   SELECT elector, act, state, detail, max(sent) FROM sent WHERE kind = ?1 AND elector IN (
     SELECT elector FROM sent WHERE kind = ?1 GROUP BY elector
     HAVING total(state = 'written') > total(state = 'taken') AND max(act) > ?2
@@ -249,12 +249,6 @@ SELECT elector, detail ->> 'for_act', detail ->> 'about' FROM (
 """
 
 
-def unsent(book: Book, kind: str, after: int) -> list[tuple[int, int, list[About]]]:
-    """Of each the elector, the act that it belongs to, and what it is about."""
-    rows = book.rows(UNSENT, kind, after)
-    return [(elector, act, json.loads(about)) for elector, act, about in rows]
-
-
-def last_act_of(book: Book, kind: str) -> int:
-    """The act that the last letters of a kind belong to, of which there are some."""
-    return int(book.value("SELECT max(detail ->> 'for_act') FROM sent WHERE kind = ?", kind))
+def unsent(book: Book, kind: str, after: int) -> list[tuple[int, list[About]]]:
+    """The electors of these, and what each is about."""
+    return [(elector, json.loads(about)) for elector, about in book.rows(UNSENT, kind, after)]

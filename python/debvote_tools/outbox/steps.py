@@ -254,10 +254,10 @@ def upload(now: Now) -> Iterator[Due]:
 
 def letters(now: Now) -> Iterator[Due]:
     """Receipts and reminders that were written; and what all electors get."""
-    if unsent := unsent_receipts(now):
-        yield Due(Step.LETTERS, len(unsent), "receipts")
-    if unsent := unsent_reminders(now):
-        yield Due(Step.LETTERS, len(unsent), "reminders")
+    if number := len(unsent_receipts(now)):
+        yield Due(Step.LETTERS, number, "receipts")
+    if number := len(unsent_reminders(now)):
+        yield Due(Step.LETTERS, number, "reminders")
     for kind, for_act in now.for_acts():
         if left := left_of(now, kind, for_act):
             number = sum(bool(address_in(elector.addresses)) for elector in left)
@@ -268,7 +268,7 @@ def unsent_receipts(now: Now) -> list[int]:
     """The electors; none for a receipt about a letter in whose place there is a ballot now."""
     return [
         elector
-        for elector, _, about in outgoing.unsent(now.book, "receipts", now.done_until(Step.LETTERS))
+        for elector, about in outgoing.unsent(now.book, "receipts", now.done_until(Step.LETTERS))
         if any(
             what == "envelope" or (elector, number) in now.letters_to_tell
             for what, number, _ in about
@@ -276,17 +276,16 @@ def unsent_receipts(now: Now) -> list[int]:
     ]
 
 
-def unsent_reminders(now: Now) -> list[int]:
+def unsent_reminders(now: Now) -> set[int]:
     """The electors who have not voted since. A run of another day is a new one."""
     runs = [] if now.is_over else now.runs_of_reminders
     since = [act.number - 1 for act in runs if now.time - act.time < DAY]
     if not since:
-        return []
-    unsent = outgoing.unsent(now.book, "reminders", max(since[0], now.done_until(Step.LETTERS)))
-    last = outgoing.last_act_of(now.book, "reminders")
+        return set()
+    after = max(since[0], now.done_until(Step.LETTERS))
     counting = queries.what_counts(now.book)
     silent = {elector.number for elector in now.electors if elector.name not in counting}
-    return [elector for elector, act, _ in unsent if act == last and elector in silent]
+    return silent.intersection(dict(outgoing.unsent(now.book, "reminders", after)))
 
 
 def left_of(now: Now, kind: str, for_act: int) -> list[Elector]:
