@@ -7,6 +7,11 @@ CREATE TEMP VIEW refused AS SELECT envelope FROM ballot WHERE answer IS NOT NULL
 
 CREATE TEMP VIEW valid AS SELECT * FROM ballot WHERE answer IS NULL;
 
+-- Of each envelope what its ballot says: its line, and of a click in a vote with tellers what is sealed to them.
+CREATE TEMP VIEW said AS
+  SELECT envelope, CAST(line AS TEXT) || coalesce((SELECT known ->> 'block' FROM letter WHERE letter.letter = entered.letter), '') AS said
+  FROM entered;
+
 -- The late lines that are not struck.
 CREATE TEMP VIEW late AS SELECT envelope FROM entered WHERE late AND struck IS NULL;
 
@@ -20,6 +25,7 @@ CREATE TEMP VIEW taken_back AS SELECT envelope FROM struck WHERE act IN (SELECT 
 CREATE TEMP VIEW lost AS
   SELECT envelope FROM came_valid AS gone WHERE envelope IN taken_back AND NOT EXISTS (
     SELECT 1 FROM valid WHERE elector = gone.elector AND envelope > gone.envelope AND line = gone.line
+      AND (SELECT said FROM said WHERE said.envelope = valid.envelope) = (SELECT said FROM said WHERE said.envelope = gone.envelope)
   );
 
 -- Of each elector the valid one with the greatest number counts. A later one is looked for from each, and no greatest in each group:

@@ -7,13 +7,23 @@ import shlex
 import shutil
 from collections.abc import Iterator
 
+from debvote_tools import VERSION
 from debvote_tools.book import queries
 from debvote_tools.book.book import ActName, Detail
 from debvote_tools.book.change import Change
 from debvote_tools.call.box import SCRIPT, box_files, records_file, script_address
 from debvote_tools.call.call import CallData, call_files, call_letter, current_call, until_of
 from debvote_tools.call.draft import letter_text_in, texts_of
-from debvote_tools.call.secret import aliased, demand_no_code
+from debvote_tools.call.secret import aliased, blank_slips, demand_no_code
+from debvote_tools.call.teller_page import teller_checksum, teller_file
+from debvote_tools.call.tellers import (
+    FEWEST,
+    check_off,
+    demand_new_points,
+    fingerprints,
+    public_poll,
+    tellers_in,
+)
 from debvote_tools.cli.arguments import Acting, flag, given, option
 from debvote_tools.cli.console import act_time, count_of, is_terminal, is_yes, tell
 from debvote_tools.cli.faults import Fault, bad_words, kept_in, stop_at
@@ -31,6 +41,7 @@ from debvote_tools.election import (
     LETTERS,
     LETTER_TEXT,
     PRIVATE,
+    TELLERS,
     Election,
     History,
     Sealed,
@@ -106,6 +117,8 @@ def call(election: Election, arguments: Arguments) -> None:
         call_first(election, arguments)
     else:
         call_again(election, arguments)
+    if tellers := election.history().tellers:
+        election.book.note().put_points(election.book.acts()[0].digest, tellers.values())
     make_folders(election)
     tell(*call_in_words(election, current_call(election)))
 
@@ -120,17 +133,26 @@ def call_first(election: Election, arguments: Arguments) -> None:
         keyring = keyring_in(election, arguments.keyring)
     with kept_in(faults):
         demand_read(election, history)
+    tellers = dict[str, str]()
+    with kept_in(faults):
+        tellers = tellers_in(election)
+        demand_new_points(election.book, tellers)
+    has_tellers = election.path(TELLERS).exists()
     with kept_in(faults):
         draft = checked(election, deadline=detail.get("until"), address=detail.get("to"))
         faults += faults_by_secrecy(arguments, history, draft.questions)
-        if draft.lacks_codes:
+        if has_tellers:
+            faults += faults_by_tellers(election, arguments, draft.questions)
+        elif draft.lacks_codes:
             raise Fault(
                 None,
                 "the vote is secret, and electors have no codes",
                 f"run {election.command('codes')} first",
             )
     stop_at(faults)
-    if arguments.box and draft.questions.is_secret:
+    if tellers:
+        detail |= {"tellers": tellers, "slips": "no"}
+    elif arguments.box and draft.questions.is_secret:
         detail["slips"] = arguments.slips or asked_slips()
     detail |= {
         "names": arguments.names,
@@ -155,6 +177,9 @@ def sealing(
     electors = queries.electors(election.book)
     questions = draft.questions
     public = aliased(questions, electors) if questions.is_secret else questions
+    if "tellers" in detail:
+        public = public_poll(questions)
+        questions = check_off(questions)
     sealed = Sealed(public, questions)
     files = sealed_by(election, arguments, detail, draft.letter_text, sealed)
     if keyring is not None:
@@ -247,9 +272,12 @@ def take_back(election: Election) -> None:
         )
         for elector in queries.electors(book)
     ]
-    void_codes = len(lapsed) if election.questions.is_secret else 0
+    has_codes = election.questions.is_secret and not history.tellers
+    void_codes = len(lapsed) if has_codes else 0
     detail: Detail = {"call": call_act.number, "codes": void_codes}
     Change("take back", detail, electors=lapsed).do(book, history.last.number)
+    if history.tellers:
+        book.note().put_points(book.acts()[0].digest, ())
     remove_void(election, election.history())
     tell("Took the call back. If anybody has seen it, tell them that it is void.")
     if history.announced("box"):
@@ -300,7 +328,7 @@ def sealed_by(
         for name, content in files.items():
             demand_no_code(name, content, codes)
         if sealed or LETTER_TEXT in files:
-            texts = texts_of(sealed.counted) if sealed else {}
+            texts = texts_of(sealed.public) if sealed else {}
             # letter.txt begins the letter to all
             texts |= {letter_text: LETTER_TEXT}
             detail["agreed"] = agreed_texts(election.history(), texts, is_agreed=arguments.yes)
@@ -352,6 +380,24 @@ def faults_by_secrecy(
             "codes are on the roll, and the result would show whoever keeps the web host whose each is",
             LEAVE_OUT,
         )
+
+
+def faults_by_tellers(
+    election: Election, arguments: Arguments, questions: Questions
+) -> Iterator[Fault]:
+    """What stands against a vote in which the page seals ballots to tellers."""
+    electors = queries.electors(election.book)
+    if not (questions.is_secret and arguments.box) or questions.is_several:
+        words = "tellers open the ballots of a secret vote about one question, by clicks"
+        yield bad_words(TELLERS, words, "write secret = true into the poll, and call with --box")
+    if any(elector.code for elector in electors) or election.history().has_codes_on_roll:
+        words = "electors have codes, and with tellers nobody may have one"
+        yield bad_words(TELLERS, words, "begin anew in another folder")
+    if arguments.slips:
+        yield bad_words("--slips", "with tellers slips have no codes", LEAVE_OUT)
+    if len(electors) < FEWEST:
+        words = f"of fewer than {FEWEST} electors the numbers tell how each voted"
+        yield bad_words(TELLERS, words, "hold the vote otherwise")
 
 
 def asked_slips() -> str:
@@ -432,7 +478,11 @@ def make_folders(election: Election) -> None:
     extension = queries.sealed(book, f"{LETTERS}/{EXTENSION}")
     if extension and history.since_call("extend"):
         write_made(election.path(LETTERS), {EXTENSION: extension}, OWN)
-    if election.questions.is_secret:
+    if history.tellers:
+        call = current_call(election, history)
+        slips = blank_slips(call, len(election.questions.roll))
+        write_made(election.path(PRIVATE), {SLIPS: slips}, OWN, (SLIPS, CODES))
+    elif election.questions.is_secret:
         write_slips(election, election.sealed())
 
 
@@ -444,6 +494,11 @@ def call_in_words(election: Election, data: CallData) -> Iterator[str]:
     if data.has_codes_on_roll:
         yield "Codes are on the roll: the call has the checksum of the poll, but no poll.toml."
         yield f"Print {slips}, cut the slips out, and let each elector draw one."
+    elif data.tellers:
+        page = teller_file(data.language)
+        yield f"Page and letter seal to, and name: {fingerprints(data.tellers)}. Each teller tells members the own fingerprint by another way."
+        yield f"Tellers look at the page, and open, with {page} of version {VERSION}, SHA-256 {teller_checksum(data.language)}, which they get elsewhere than from you."
+        yield f"Print {slips} for those who vote on paper: nothing on a slip tells whose it is."
     elif data.has_aliases:
         yield "The vote is secret: the poll of the call has aliases, and the folder has no names of electors."
         yield f"Print {slips}, cut the slips out, and give each elector their own."

@@ -8,11 +8,13 @@ from debvote_tools.book import queries
 from debvote_tools.book.book import Detail, DoneAct
 from debvote_tools.book.change import Change, carried_out, terminal_question
 from debvote_tools.call.secret import seal_line, sealed_checksum
-from debvote_tools.cli.arguments import Acting, demand_reason, flag, has_reason
+from debvote_tools.call.tellers import LIST_0, SLIPS_TYPED, VOTED
+from debvote_tools.cli.arguments import Acting, demand_reason, flag, has_reason, option
 from debvote_tools.cli.console import act_time, count_of, tell
 from debvote_tools.cli.faults import Fault, stop_at
 from debvote_tools.election import LETTERS, Election, Fixed, History, fixed_by
 from debvote_tools.files import OWN, write_made
+from debvote_tools.inbox import urn
 from debvote_tools.inbox.asking import ask_before_close
 from debvote_tools.inbox.stopping import (
     Pending,
@@ -37,17 +39,25 @@ class Arguments(Acting):
         "With --because: close although letters wait that arrived in time, or the web box was not asked since the end; the "
         "result page says so"
     )
+    paper: str | None = option(
+        "FILE",
+        "In a vote with tellers: the slips on paper, on each line the ranks of one, or - if it is spoilt; as many as are checked off",
+    )
     yes: bool = flag("Close without asking whether all ballots are in")
 
 
 def close(election: Election, arguments: Arguments) -> None:
     """Close the vote; lines that are entered later are late, and do not count."""
     election.demand_right_book(arguments)
+    urn.demand_tellers(election.history(), arguments.paper)
     if is_new := not election.history().is_closed:
         ask_first(election, arguments)
         carried_out(election.book, lambda: what_is_closed(election, arguments))
     history = election.history()
     act = history.closes[-1]
+    for name in (LIST_0, VOTED, SLIPS_TYPED) if history.tellers else ():
+        file = election.path(name)
+        write_made(file.parent, {file.name: queries.sealed(election.book, name, act.number)}, OWN)
     path = election.path(LETTERS) / CLOSED
     written = write_made(path.parent, {CLOSED: closing_letter(election, history)}, OWN)
     fixed = fixed_by(act)
@@ -65,6 +75,7 @@ def close(election: Election, arguments: Arguments) -> None:
             f"Checksum of the ballots{label and f' of question {label}'}{' with the random line' if of_one.seal else ''}: {of_one.checksum}"
             for label, of_one in fixed.items()
         ),
+        *([urn.voted_words(history)] if history.tellers else []),
         f"Send {path} to all electors before you count anything.",
     )
     ready = list[str]()
@@ -73,6 +84,9 @@ def close(election: Election, arguments: Arguments) -> None:
         from debvote_tools.commands.letters import write_ready
 
         ready = write_ready(election, "closed")
+    if history.tellers:
+        tell(*ready, *urn.next_after_close(election, history))
+        return
     sending = f"{election.to_all('closed', path, is_ready=bool(ready))}; then "
     # where nobody knows whose each code is, it is sent to all alone
     first = "" if history.has_codes_on_roll else sending
@@ -174,17 +188,24 @@ def what_is_closed(election: Election, arguments: Arguments) -> Closing:
         faults.append(too_early(election, history.until, now))
     if not is_forced(arguments):
         faults += stopping.values()
+    sealed = dict[str, bytes]()
+    if history.tellers:
+        faults += urn.faults_of_ballots(election)
     stop_at(faults)
     fixed = {
         label: what_is_fixed(kept)
         for label, kept in kept_of(election, history, election.questions).items()
     }
+    in_urn: Detail = {}
+    if history.tellers:
+        sealed, in_urn, fixed[""] = urn.filled(election, history, arguments.paper)
     detail = detail_of(election, fixed, pending, is_early=is_early)
     if stopping:
         detail["because"] = demand_reason(arguments.because, "--force")
     came = came_last(election, history, lines_in_words(fixed))
-    shown = [came, *other_votes_words(pending.other_votes)]
-    return Closing("close", detail, shown=shown, question=terminal_question(ALL, arguments.yes))
+    shown = [came, *pending.passed_over, *other_votes_words(pending.other_votes)]
+    question = terminal_question(ALL, arguments.yes)
+    return Closing("close", detail | in_urn, shown=shown, question=question, sealed=sealed)
 
 
 def too_early(election: Election, until: datetime.datetime, now: datetime.datetime) -> Fault:

@@ -22,6 +22,7 @@ from debvote_tools.cli.faults import Fault
 from debvote_tools.election import LETTERS, RESULT_LETTER, Election, History
 from debvote_tools.inbox import letter_words
 from debvote_tools.inbox.asked import asked_last, asked_words, with_lost_records
+from debvote_tools.inbox.urn import faults_of_ballots, few_slips_words
 from debvote_tools.inbox.stopping import Pending, pending_letters, taken_out_words
 from debvote_tools.inbox.vote import envelope_words
 from debvote_tools.outbox.reached import unreached_and_printed
@@ -76,6 +77,7 @@ def state_of(election: Election, history: History, counting: Mapping[str, str]) 
         "stage": history.stage,
         "electors": len(electors),
         **queries.numbers(book)._asdict(),
+        **voters_in_urn(history),
         "late": len(queries.lines(book, "envelope IN late")),
         "struck": len(history.since_call("strike")),
         "taken_back": len(queries.lost(book)),
@@ -108,6 +110,14 @@ def still_refused(book: Book, counting: Mapping[str, str]) -> list[Envelope]:
     ]
 
 
+def voters_in_urn(history: History) -> State:
+    """With tellers, after the close, how many ballots they open: no spoilt slip is among them."""
+    if not (history.tellers and history.is_closed):
+        return {}
+    detail = history.closes[-1].detail
+    return {"voters": detail["clicks"] + detail["slips"]}
+
+
 def questions_in(election: Election, history: History, *, has_late: bool) -> State:
     """The numbers of each of several questions."""
     book = election.book
@@ -129,7 +139,9 @@ def stage_words(election: Election, history: History, state: State) -> Iterator[
         return
     questions = election.questions
     yield f"Title: {questions.name}"
-    if questions.is_secret:
+    if history.tellers:
+        yield f"The vote is secret, and its ballots are sealed to {', '.join(history.tellers)}. Keep the output of this command to yourself."
+    elif questions.is_secret:
         yield f"The vote is secret: ballots are published under {'codes' if history.has_codes_on_roll else 'aliases'}. Keep the output of this command to yourself."
     if history.until is not None:
         yield f"End of the vote: {times.time_in_words(history.until)}{'; that time has passed' if times.now() >= history.until else ''}"
@@ -138,7 +150,7 @@ def stage_words(election: Election, history: History, state: State) -> Iterator[
     if history.is_reopened:
         yield f"Reopened: at {act_time(history.named('reopen')[-1].time)}"
     quorums = history.call.detail["quorum_votes"]
-    for label, poll in questions.items():
+    for label, poll in election.decided.items():
         if label:
             yield f"Question {label}: {poll.name}: {count_of(state['questions'][label]['voters'], 'elector')} answered"
         yield f"{'  ' if label else ''}{quorum_words(poll.quorum, quorums[label])}"
@@ -154,6 +166,9 @@ def state_words(
         yield taken_out_words(election, history)
     yield f"Electors with a valid ballot: {state['voters']} of {state['electors']}"
     yield from asked_words(history)
+    if history.tellers and not history.is_closed:
+        yield from (f"Before the close: {fault.reason}" for fault in faults_of_ballots(election))
+        yield from few_slips_words(election)
     yield from named(
         "Ballots that nobody can open, and no later ones, by the links of", state["lost"]
     )
@@ -185,6 +200,10 @@ def named(what: str, names: list[str] | None) -> Iterator[str]:
 
 
 def what_next(election: Election, history: History, state: State) -> str:
+    lists = len(history.handed_on)
+    if history.is_closed and lists < len(history.tellers):
+        teller = [*history.tellers][lists]
+        return f"{teller} opens list-{lists}.txt; then {election.command('tellers', 'LIST')}"
     if state["stage"] == "new":
         return f"{election.command('roll')}, then {election.command('check')}, then {election.command('call')}"
     if state["stage"] == "called":

@@ -42,6 +42,8 @@ class Pending:
     after_end: int = 0
     before_call: int = 0
     other_votes: Sequence[str] = ()
+    # in a vote with tellers, in words, the clicks that count for nobody
+    passed_over: Sequence[str] = ()
 
     @property
     def count(self) -> int:
@@ -93,6 +95,7 @@ def pending_letters(election: Election, history: History) -> Pending:
     if not (kept := queries.kept_letters(book) if is_signed else queries.may_wait(book)):
         return Pending()
     from debvote_tools.inbox.judging import judged
+    from debvote_tools.inbox.reasons import for_secretary
     from debvote_tools.inbox.rules import LetterOutcome
     from debvote_tools.inbox.vote import Vote
 
@@ -110,6 +113,11 @@ def pending_letters(election: Election, history: History) -> Pending:
         after_end,
         len(pending) - len(arrived_in_time) - after_end,
         [case.other_vote for case in letters if case.outcome is LetterOutcome.OTHER_VOTE],
+        [
+            f"Letter {case.number} is passed over: {for_secretary(case.reason)}."
+            for case in letters
+            if case.outcome is LetterOutcome.PASSED_OVER and case.reason
+        ],
     )
 
 

@@ -10,6 +10,7 @@ from typing import NamedTuple
 
 from debvote_tools.book import queries
 from debvote_tools.call.box import without_links
+from debvote_tools.call.tellers import ON_PAPER, PAPER
 from debvote_tools.cli.console import LEAVING_OUT, count_of, cut, in_runs, private, shown_line
 from debvote_tools.cli.faults import Fault
 from debvote_tools.debvote import Finding, Findings
@@ -32,6 +33,14 @@ NO_FORM = Finding(
     "bad shape",
     "a ballot is a name, and for each question that is answered its label and its ranks",
 )
+
+# what is said in a vote with tellers of a line that nobody types: the page alone sends others
+NO_CHECK_OFF = Finding(
+    0,
+    "bad shape",
+    f"ballots are sealed by the page alone; of who votes on paper the line is NAME {PAPER}, and the slip goes into the urn",
+)
+PAPER_AT_END = re.compile(rb"[\s:]+paper[.!]?\s*$", re.IGNORECASE)
 
 # the same where one of them is answered without its label
 WITHOUT_LABEL = "a ballot here is a name and its ranks, without a label"
@@ -72,9 +81,10 @@ class CheckedLine(NamedTuple):
     @property
     def can_be_entered(self) -> bool:
         """As a ballot or as refused. Of several answers a line can't that has not their form, or
-        has the name of several electors.
+        has the name of several electors; with tellers one that has ranks, which the book would
+        have beside the name.
         """
-        return self.finding is not NO_FORM
+        return self.finding not in (NO_FORM, NO_CHECK_OFF)
 
     @property
     def why_refused(self) -> str | None:
@@ -115,6 +125,7 @@ class Vote:
         # the roll has codes: none is printed that was not typed
         self.has_codes = history.has_codes_on_roll
         self.is_signed = bool(history.announced("signed"))
+        self.has_tellers = bool(history.tellers)
         # what debvote has said of lines
         self.known = dict[bytes, Mapping[str, Finding]]()
         # most ballots have one of a few orders
@@ -171,6 +182,8 @@ class Vote:
             return line.why_unclear
         is_none = f"`{shown_line(line.original.repaired)}` is no ballot"
         hint = NO_FORM.hint if self.poll is None else WITHOUT_LABEL
+        if self.has_tellers:
+            is_none, hint = "this is no line of this vote", NO_CHECK_OFF.hint
         return line.why_unclear or self.why_too_long(line.original) or f"{is_none}: {hint}"
 
     def electors_of(self, lines: Sequence[bytes]) -> list[int | None]:
@@ -189,6 +202,8 @@ class Vote:
         mark and carriage return. It is refused too, since repairs leave a right line as it is; the
         reason may be another one.
         """
+        if self.has_tellers:
+            lines = [*map(on_paper, lines)]
         meant = [(line, *self.as_meant(line)) for line in lines]
         texts = [text for _, text, _ in meant]
         texts += [line.unframed for line, text, _ in meant if line.unframed != text]
@@ -211,7 +226,9 @@ class Vote:
         findings = refused[line.unframed if why else meant]
         if why and self.names.labels:
             findings = {"": NO_FORM}
-        if not findings:
+        if self.has_tellers and not meant.endswith(f" {ON_PAPER}".encode()):
+            yield CheckedLine(line, meant, line.unframed, NO_CHECK_OFF, NO_CHECK_OFF)
+        elif not findings:
             yield CheckedLine(line, meant, meant)
         elif of_meant := findings.get(""):
             as_it_came = refused[line.unframed].get("", of_meant)
@@ -383,6 +400,8 @@ class Vote:
     @property
     def right_line(self) -> str:
         name = "CODE" if self.has_codes else self.questions.roll[0]
+        if self.has_tellers:
+            return f"{name} {PAPER}"
         right = self.questions.line(name, turned_rank)
         part = part_of(right.encode(), self.label)
         return right if part is None else part.decode()
@@ -396,6 +415,13 @@ class Vote:
         ranks_of = f"the ranks of {cut(options, MOST_OF_OPTIONS)}; 1 is the best"
         words = f"A ballot line of this poll: `{self.right_line}`: {ranks_of}"
         return words if self.poll else f"{words}; a question may be left out"
+
+
+def on_paper(line: Line) -> Line:
+    """A line with the ranks of the check-off in place of the word for paper."""
+    ranks = f" {ON_PAPER}".encode()
+    repaired = PAPER_AT_END.sub(ranks, line.repaired)
+    return line._replace(repaired=repaired, named=PAPER_AT_END.sub(ranks, line.named))
 
 
 def numbered(names: Iterable[str]) -> str:

@@ -129,6 +129,12 @@ class VoteFacts(NamedTuple):
     codes: Collection[str] = ()
     # whether the names on the roll are codes, and nobody has a list of them
     has_codes: bool = False
+    # with tellers: the numbers of the ballots by their places on the roll, the lists and the
+    # programs that check them, by their files, and how many each teller refused
+    numbers: Mapping[str, str] = {}
+    lists: Mapping[str, bytes] = {}
+    programs: Mapping[str, bytes] = {}
+    refused_by: Mapping[str, int] = {}
     # the web address of the result, if it is known
     at: str | None = None
 
@@ -139,7 +145,7 @@ class VoteFacts(NamedTuple):
 
     @property
     def has_aliases(self) -> bool:
-        return self.questions.is_secret and not self.has_codes
+        return self.questions.is_secret and not (self.has_codes or self.numbers)
 
     def acts_about(self, labels: Collection[str]) -> list[Act]:
         """What was done, as it is told of some questions."""
