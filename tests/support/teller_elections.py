@@ -14,7 +14,7 @@ from tests.support.terminal import Terminal
 SECRET = f"secret = true\n{elections.POLL}"
 OPTIONS = 4
 # of five electors what they rank
-RANKS = dict(zip(NAMES, ("1,2,3,4", "2,1,3,4", "1,-,-,2", "4,3,2,1", "1,1,2,3")))
+RANKS = dict(zip(NAMES, ("1,2,3,4", "2,1,3,4", "1,-,-,2", "4,3,2,1", "1,2,2,3")))
 
 
 class TellerElectionTest(boxes.BoxElectionTest):
@@ -27,6 +27,9 @@ class TellerElectionTest(boxes.BoxElectionTest):
         # number and ranks of each click, by elector; the blocks that were made
         self.lines: dict[str, str] = {}
         self.blocks: dict[str, str] = {}
+
+    def kind(self) -> tuple[object, ...]:
+        return (*super().kind(), self.tellers_count)
 
     def fill_in(self, folder: pathlib.Path):
         super().fill_in(folder)

@@ -14,7 +14,7 @@ from debvote_tools.poll.questions import Questions
 from debvote_tools.poll.sealed import SealedPoll
 from debvote_tools.text.language import LANGUAGES, language_of
 
-from tests.python.call.test_tellers import FILES, LISTS, MARK, OWN, POINTS
+from tests.python.call.test_tellers import LISTS, MARK, OWN, POINTS
 from tests.support import at_browser, in_firefox, tellers
 from tests.support.teller_pages import KEEPING, TellerPage, halves, key_file
 
