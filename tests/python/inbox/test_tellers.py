@@ -12,7 +12,7 @@ import unittest
 from debvote_tools.call.lists import list_name, read_list, text_of
 
 from tests.support import elections, teller_elections, tellers
-from tests.support.boxes import now, text_of as text_of_letter
+from tests.support.boxes import now
 from tests.support.elections import ELECTION
 from tests.support.teller_elections import RANKS
 from tests.support.web_host import NEEDS_PHP

@@ -1,12 +1,10 @@
 """A vote with tellers by clicks, in chromium and in Firefox: from the page of the vote to that of the result."""
 
-import json
 import re
 import subprocess
 import unittest
 import urllib.parse
 
-from debvote_tools.call.lists import list_name
 
 from tests.support import at_browser, boxes, in_firefox, teller_elections, tellers
 from tests.support.at_browser import NEEDS_BROWSER
