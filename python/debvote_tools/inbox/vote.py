@@ -149,6 +149,8 @@ class Vote:
         """
         names = self.names
         labels = names.labels
+        if self.has_tellers:
+            line = on_paper(line)
         # of several answers each is repaired by itself: the first label may be part of the name
         given = line.unframed if labels else line.named
         text = names.with_ranks(given.decode("utf-8", "surrogateescape"))
@@ -202,8 +204,6 @@ class Vote:
         mark and carriage return. It is refused too, since repairs leave a right line as it is; the
         reason may be another one.
         """
-        if self.has_tellers:
-            lines = [*map(on_paper, lines)]
         meant = [(line, *self.as_meant(line)) for line in lines]
         texts = [text for _, text, _ in meant]
         texts += [line.unframed for line, text, _ in meant if line.unframed != text]
@@ -408,6 +408,8 @@ class Vote:
 
     def right_words(self) -> str:
         """A ballot line with what each rank is of, as `explain` has it."""
+        if self.has_tellers:
+            return f"Type `{self.right_line}` for each who votes on paper; the page alone seals ballots."
         polls = {"": self.poll} if self.poll else self.questions
         options = "; ".join(
             f"{label} {numbered(poll.names)}".strip() for label, poll in polls.items()
