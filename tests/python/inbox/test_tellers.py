@@ -17,7 +17,7 @@ from tests.support.elections import ELECTION
 from tests.support.teller_elections import RANKS
 from tests.support.web_host import NEEDS_PHP
 
-SLIPS = "2,1,3,4\n 1 , 2,-,9\n-\n1,1,1,2\n2,1,3,4\n-,-,1,-\n"
+SLIPS = "2,1,3,4\n 1 , 2,-,9\n-\n1,1,1,2\n2,1,3,4\n1,-,-,-\n"
 ON_PAPER = ["fay", "gus", "hal", "ida", "jan", "kim"]
 CALL = "call --box --at https://club.example/vote/ --to vote@club.example"
 
@@ -144,7 +144,7 @@ class WholeVote(teller_elections.TellerElectionTest):
         typed = [
             line.split(" ")[1] for line in self.read("private/paper.txt").decode().splitlines()
         ]
-        self.assertEqual(typed, ["-,-,1,-", "1,1,1,2", "1,2,-,3", "2,1,3,4", "2,1,3,4"])
+        self.assertEqual(typed, ["1,-,-,-", "1,1,1,2", "1,2,-,3", "2,1,3,4", "2,1,3,4"])
         self.refused("count", "the tellers have not opened all layers yet")
         self.opened()
         paper = self.read("private/paper.txt").decode().splitlines()
@@ -758,7 +758,6 @@ class Speed(teller_elections.TellerElectionTest):
         spent = {"close": seconds("close", "--early", "--yes")}
         for step in (1, 2):
             spent[f"list {step}"] = seconds("tellers", self.open(step))
-        print(spent)
         for what, time in spent.items():
             self.assertLess(time, 5, what)
         self.assertEqual(len(self.ballots()), 1000)
