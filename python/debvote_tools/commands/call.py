@@ -300,7 +300,9 @@ def remove_void(election: Election, history: History) -> None:
     for kind in ("call", "reminders"):
         shutil.rmtree(election.path(LETTERS) / kind, ignore_errors=True)
     last = history.named("codes", "take back")[-1]
-    if last.name == "take back" and last.detail.get("codes"):
+    if last.name != "take back":
+        return
+    if last.detail.get("codes") or history.act(last.detail["call"]).detail.get("tellers"):
         write_made(election.path(PRIVATE), {}, OWN, (SLIPS, CODES))
 
 

@@ -14,6 +14,7 @@ from debvote_tools.call.lists import list_name, read_list, text_of
 from tests.support import elections, teller_elections, tellers
 from tests.support.boxes import now
 from tests.support.elections import ELECTION
+from tests.support.program import ROOT
 from tests.support.teller_elections import RANKS
 from tests.support.web_host import NEEDS_PHP
 
@@ -106,10 +107,42 @@ class BadInput(elections.ElectionTest):
         ended = self.election(*f"{CALL} --folder {other}".split())
         self.assert_fault(ended, 2, "another vote has the keys of carla, dora", "make new keys")
         self.done("call --take-back")
+        self.assertFalse((self.folder / "private/slips.html").exists())
         self.done(*f"{CALL} --folder {other}".split())
         # the first one asks for other keys now
         self.write("tellers.txt", tellers.tellers_file())
         self.assert_fault(self.election(CALL), 2, "another vote has the keys of carla, dora")
+
+    def test_letters_on_paper_have_no_ballot(self):
+        self.write(
+            "members.csv", elections.members_of(elections.NAMES).replace("gus@club.example", "")
+        )
+        self.done("roll")
+        self.write("tellers.txt", tellers.tellers_file())
+        self.done(f"{CALL} --until '2099-12-04 18:00'")
+        self.done("letters call --force --because x")
+        printed = "".join(
+            file.read_text() for file in (self.folder / "letters/call").rglob("*.html")
+        )
+        text = " ".join(re.sub("<[^>]*>", "", printed).split())
+        self.assertIn("You can vote on paper, with a slip that has no name", text)
+        self.assertNotIn("Write a number into each box", text)
+
+    def test_the_page_of_the_tellers(self):
+        made = self.scratch / "made"
+        subprocess.run([ROOT / "docs/make-teller", made], check=True, timeout=300)
+        subprocess.run([ROOT / "docs/make-teller"], check=True, timeout=300)
+        said = self.done("tellers").output
+        checksum, place = said.split()
+        self.assertEqual(pathlib.Path(place).read_bytes(), (made / "teller-en.html").read_bytes())
+        self.assertEqual(tellers.sha256((made / "teller-en.html").read_bytes()), checksum)
+        guide = (ROOT / "docs/SECRET-VOTES.md").read_text()
+        for page in made.iterdir():
+            # docs/make-teller --tags writes it
+            self.assertIn(f"{tellers.sha256(page.read_bytes())}  {page.name}\n", guide)
+        self.write("tellers.txt", tellers.tellers_file())
+        self.done(CALL)
+        self.assertIn(checksum, self.read("call/index.html").decode())
 
     def test_without_tellers(self):
         self.done("codes")

@@ -2,6 +2,7 @@
 
 import datetime
 import re
+import runpy
 import time
 import unittest
 
@@ -16,6 +17,7 @@ from debvote_tools.text.language import LANGUAGES, language_of
 
 from tests.python.call.test_tellers import LISTS, MARK, OWN, POINTS
 from tests.support import at_browser, in_firefox, tellers
+from tests.support.program import ROOT
 from tests.support.teller_pages import KEEPING, TellerPage, halves, key_file
 
 # nine ballots, and a spoilt slip
@@ -347,6 +349,12 @@ class Looking(PageTest):
         )
         self.assertEqual(shown[5:7], ["carla bf6e-3480-d3f0-5753", "dora e843-5051-d2bd-ab7e"])
         self.assertEqual(shown[7], f"SHA-256: {tellers.sha256(page_of())}")
+
+    def test_the_tags_are_those_of_all_kinds_of_pages(self):
+        """docs/make-teller --tags collects them anew."""
+        made = runpy.run_path(str(ROOT / "docs/make-teller"))
+        tags = set[str]().union(*(tags_in(call_page(call).decode()) for call in made["calls"]()))
+        self.assertEqual(tags, {*TAGS.read_text().split()})
 
     def test_a_changed_page(self):
         page = page_of().decode()
