@@ -11,7 +11,7 @@ import hashlib
 import pathlib
 import re
 import sys
-from collections.abc import Mapping, Sequence
+from collections.abc import Iterator, Mapping, Sequence
 from typing import NamedTuple
 
 from cryptography.exceptions import InvalidSignature, InvalidTag
@@ -31,26 +31,28 @@ LAYER = 108
 # each key seals once
 NONCE = bytes(12)
 
-FEWEST_TELLERS, MOST_TELLERS = 2, 3
-# of fewer ballots each may be known
-FEWEST = 5
-# in place of the list before the first one
-NONE_BEFORE = "0" * 64
-
-TELLER = re.compile(r"([a-z0-9.-]{1,32}) ([\w-]{87})", re.ASCII)
-HEAD = re.compile(r"debvote urn 1 ([0-9a-f]{16}) ([0-3]) (0|[1-9][0-9]{0,5}) ([0-9a-f]{64})")
 RANK = "(?:-|[1-9][0-9]?)"
 OPENED = re.compile(rf"[2-9a-hj-km-np-z]{{8}} ({RANK}(?:,{RANK})+)")
-OF_BALLOT = re.compile(r"debvote ballot 1 ([0-9a-f]{16})")
+TELLERS = re.compile(r"(?:[a-z0-9.-]{1,32} [\w-]{87}\n){2,3}", re.ASCII)
+# what is signed of a list, and the signature: its head, in list 0 title and tellers, the ballots,
+# and the blocks of the list before that the teller refused
+LIST = re.compile(
+    r"(debvote urn 1 ([0-9a-f]{16}) ([0-3]) (0|[1-9][0-9]{0,5}) ([0-9a-f]{64})\n"
+    r"(?:title ([^\r\n]*)\n((?:teller [^\r\n]+\n)+))?((?:[\w-]+\n|\w{8} [\d,-]+\n)*)((?:! [\w-]+\n)*))"
+    r"(?:signed ([\w-]+)\n)?",
+    re.ASCII,
+)
+OTHER_TELLERS = "its tellers are not those of the call"
+OWN = re.compile(r"debvote ballot 1 ([0-9a-f]{16})\n((?:[1-3] [\w-]+ [\w-]+\n){2,3})([^\n]+)\n")
 
 
 class Bad(ValueError):
-    """What is wrong with a list, in words, and what it was found in."""
+    """What something is wrong with, and what that is."""
 
-    def __init__(self, where: str, words: str) -> None:
-        super().__init__(f"{where}: {words}")
-        self.where = where
-        self.words = words
+
+def demand(is_right: bool, where: str, words: str) -> None:
+    if not is_right:
+        raise Bad(where, words)
 
 
 # ---- points, layers and signatures
@@ -99,17 +101,15 @@ def layer(
 
 
 def inside_by(step: int, to: bytes, mark: str, block: bytes, private_key: bytes) -> bytes:
-    """What is in a block, by the private key of its own point. Raises ValueError if it is another,
-    or opens nothing.
+    """What is in a block, by the private key of its own point. Raises ValueError or InvalidTag if
+    it is another, or opens nothing.
     """
     private = ec.derive_private_key(int.from_bytes(private_key, "big"), CURVE)
-    if point_of(private) != block[:POINT]:
+    own = point_of(private)
+    opening = cipher(private, to, f"debvote teller {step}", own, to)
+    if not block.startswith(own):
         raise ValueError
-    opening = cipher(private, to, f"debvote teller {step}", block[:POINT], to)
-    try:
-        return opening.decrypt(NONCE, block[POINT:], mark.encode())
-    except InvalidTag:
-        raise ValueError from None
+    return opening.decrypt(NONCE, block[POINT:], mark.encode())
 
 
 def is_signed_by(point: str, signature: str, body: bytes) -> bool:
@@ -117,13 +117,11 @@ def is_signed_by(point: str, signature: str, body: bytes) -> bool:
     try:
         data = bytes_of(signature)
         r, s = (int.from_bytes(half, "big") for half in (data[:32], data[32:]))
-        if len(data) != 64 or s > (ORDER - 1) // 2:
-            return False
         signed = encode_dss_signature(r, s)
         public_key(bytes_of(point)).verify(signed, body, ec.ECDSA(SHA256()))
     except (ValueError, InvalidSignature):
         return False
-    return True
+    return len(data) == 64 and s <= (ORDER - 1) // 2
 
 
 # ---- lists
@@ -136,8 +134,6 @@ class List(NamedTuple):
     before: str
     title: str
     tellers: Mapping[str, str]
-    # blocks, or in the last list numbers with ranks; and the blocks of the list before that the
-    # teller refused
     ballots: Sequence[str]
     refused: Sequence[str]
     signature: str
@@ -148,19 +144,22 @@ class List(NamedTuple):
     def digest(self) -> str:
         return hashlib.sha256(self.body).hexdigest()
 
+    @property
+    def data(self) -> bytes:
+        return self.body + (f"signed {self.signature}\n".encode() if self.signature else b"")
+
 
 def list_name(step: int) -> str:
     return f"list-{step}.txt"
 
 
-def tellers_in(lines: Sequence[str]) -> dict[str, str]:
+def tellers_in(text: str) -> dict[str, str]:
     """The points of the tellers by their names, in the order in which they open. Raises ValueError
     at another number of them, one who is there twice, and a point that is none.
     """
-    rows = [TELLER.fullmatch(line) for line in lines]
-    tellers = {row[1]: row[2] for row in rows if row}
-    number = len({*tellers.values()})
-    if not (FEWEST_TELLERS <= number <= MOST_TELLERS and number == len(tellers) == len(lines)):
+    rows = [line.split(" ") for line in text.splitlines()] if TELLERS.fullmatch(text) else []
+    tellers = {name: point for name, point in rows}
+    if not len(rows) == len(tellers) == len({*tellers.values()}) > 1:
         raise ValueError
     for point in tellers.values():
         public_key(bytes_of(point))
@@ -169,89 +168,64 @@ def tellers_in(lines: Sequence[str]) -> dict[str, str]:
 
 def read_list(name: str, data: bytes) -> List:
     """Raises `Bad` at what is no list, whatever list it follows."""
+    words = "it is no list of a vote with tellers, or was changed"
     try:
-        return list_in(name, data)
-    except (ValueError, IndexError):
-        raise Bad(name, "it is no list of a vote with tellers, or was changed") from None
-
-
-def list_in(name: str, data: bytes) -> List:
-    head, *lines = data.decode().split("\n")
-    found = HEAD.fullmatch(head)
-    if found is None or lines.pop() or b"\r" in data:
-        raise ValueError
-    mark, step, count, before = found[1], int(found[2]), int(found[3]), found[4]
-    title = signature = ""
-    tellers = dict[str, str]()
-    body = data
-    if step == 0:
-        title = after("title ", lines.pop(0))
-        number = sum(line.startswith("teller ") for line in lines[: MOST_TELLERS + 1])
-        tellers = tellers_in([after("teller ", line) for line in lines[:number]])
-        del lines[:number]
-    else:
-        signature = after("signed ", lines.pop())
-        body = data[: -len(f"signed {signature}\n".encode())]
-    refused = [after("! ", line) for line in lines[count:]]
-    for part in (lines[:count], refused):
-        if any(one >= other for one, other in zip(part, part[1:])):
-            raise ValueError
-    if len(lines) < count or (refused and step == 0) or (before == NONE_BEFORE) != (step == 0):
-        raise ValueError
-    return List(name, mark, step, before, title, tellers, lines[:count], refused, signature, body)
-
-
-def after(beginning: str, line: str) -> str:
-    if not line.startswith(beginning):
-        raise ValueError
-    return line.removeprefix(beginning)
+        found = LIST.fullmatch(data.decode())
+        demand(found is not None, name, words)
+        body, mark, step, count, before, title, tellers, *lines, signature = (
+            found.groups("") if found else [""] * 10
+        )
+        ballots, refused = (text.replace("! ", "").splitlines() for text in lines)
+        is_first = step == "0"
+        is_right = is_first == bool(tellers) == (not signature) == (before == "0" * 64)
+        is_sorted = all(sorted({*part}) == part for part in (ballots, refused))
+        is_whole = len(ballots) == int(count) and not (is_first and refused)
+        demand(is_right and is_sorted and is_whole, name, words)
+        names = tellers_in(tellers.replace("teller ", "")) if is_first else {}
+    except ValueError:
+        raise Bad(name, words) from None
+    return List(
+        name, mark, int(step), before, title, names, ballots, refused, signature, body.encode()
+    )
 
 
 def demand_lists(lists: Sequence[List], tellers: Mapping[str, str]) -> None:
     """Raises `Bad` at the first list that is not what its teller had to make of the one before, by
     the points of these tellers; the first list is of these, too.
     """
+    first = lists[0]
     names = ["the secretary", *tellers]
-    signs = options = 0
+    signs = len("".join(first.ballots[:1]))
+    options = signs // 4 - 3 - LAYER // 4 * len(tellers)
+    demand([*first.tellers.items()] == [*tellers.items()], first.name, OTHER_TELLERS)
     for step, this in enumerate(lists):
-        if this.step != step or this.mark != lists[0].mark:
-            raise Bad(this.name, f"it is not list {step} of this vote")
-        if step == 0:
-            signs = len(this.ballots[0]) if this.ballots else 0
-            options = signs // 4 - 3 - 27 * len(tellers)
-            if [*this.tellers.items()] != [*tellers.items()]:
-                raise Bad(this.name, "its tellers are not those of the call")
-        else:
-            demand_follows(lists[step - 1], this, names, tellers)
+        is_next = this.step == step <= len(tellers) and this.mark == first.mark
+        demand(is_next, this.name, f"it is not list {step} of this vote")
+        if step:
+            demand_follows(lists[step - 1], this, names, tellers[names[step]])
         is_last = step == len(tellers)
         length = signs - LAYER * step
-        if not all(
+        are_right = (
             is_opened(one, options) if is_last else is_block(one, length) for one in this.ballots
-        ):
-            raise Bad(this.name, f"{names[step]} has put into it what is no ballot")
-
-
-def demand_follows(
-    before: List, this: List, names: Sequence[str], tellers: Mapping[str, str]
-) -> None:
-    name = names[this.step]
-    if not is_signed_by(tellers[name], this.signature, this.body):
-        raise Bad(this.name, f"it is not signed by {name}")
-    if this.before != before.digest:
-        shown = (
-            f"{names[before.step]} and {name} have to show the list {before.name} that they have"
         )
-        raise Bad(this.name, f"{name} was given another {before.name} than this: {shown}")
+        demand(all(are_right), this.name, f"{names[step]} has put into it what is no ballot")
+
+
+def demand_follows(before: List, this: List, names: Sequence[str], point: str) -> None:
+    name, other = names[this.step], names[before.step]
+    is_signed = is_signed_by(point, this.signature, this.body)
+    demand(is_signed, this.name, f"it is not signed by {name}")
+    words = f"{name} was given another {before.name} than this: {other} and {name} have to show the list {before.name} that they have"
+    demand(this.before == before.digest, this.name, words)
     came = len(this.ballots) + len(this.refused)
-    if came != len(before.ballots) or not {*this.refused} <= {*before.ballots}:
-        raise Bad(
-            this.name, f"{name} was given {len(before.ballots)} ballots, and handed on {came}"
-        )
+    is_whole = came == len(before.ballots) and {*this.refused} <= {*before.ballots}
+    words = f"{name} was given {len(before.ballots)} ballots, and handed on {came}"
+    demand(is_whole, this.name, words)
 
 
 def is_block(text: str, length: int) -> bool:
     try:
-        return len(text) == length > 0 and bool(bytes_of(text))
+        return len(text) == length > 0 and bytes_of(text) != b""
     except ValueError:
         return False
 
@@ -276,75 +250,61 @@ def fate_of_ballot(data: bytes, lists: Sequence[List], tellers: Mapping[str, str
     """What became of the ballot of a saved file, in words. Raises `Bad` if the file proves
     nothing, or shows who lost it.
     """
+    where = "my-ballot.txt"
     try:
-        head, *steps, line, end = data.decode().split("\n")
-        found = OF_BALLOT.fullmatch(head)
-        rows = [row.split(" ") for row in steps]
-        blocks = [(bytes_of(block), bytes_of(key)) for _, block, key in rows]
-        if end or not found or [row[0] for row in rows] != [*map(str, range(1, len(tellers) + 1))]:
-            raise ValueError
-        insides = insides_of(found[1], blocks, line, [*tellers.values()])
-    except ValueError:
-        raise Bad("my-ballot.txt", "it was changed, and proves nothing") from None
-    if found[1] != lists[0].mark or rows[0][1] not in lists[0].ballots:
-        words = "its ballot is not in list-0.txt: you have voted again later, or the secretary left it out, which nothing proves"
-        raise Bad("my-ballot.txt", words)
-    for (name, inside), this in zip(zip(tellers, insides), lists[1:]):
-        if inside not in this.ballots:
-            words = f"{name} lost your ballot: lines 1 to {this.step} below the first of my-ballot.txt show it"
-            raise Bad(this.name, words)
+        found = OWN.fullmatch(data.decode())
+        mark, steps, line = found.groups() if found else ("", "", "")
+        first, *insides = insides_of(mark, steps, line, [*tellers.values()])
+    except (ValueError, InvalidTag):
+        raise Bad(where, "it was changed, and proves nothing") from None
+    words = "its ballot is not in list-0.txt: you have voted again later, or the secretary left it out, which nothing proves"
+    demand(mark == lists[0].mark and first in lists[0].ballots, where, words)
+    for name, inside, this in zip(tellers, insides, lists[1:]):
+        words = (
+            f"{name} lost your ballot: lines 1 to {this.step} below the first of {where} show it"
+        )
+        demand(inside in this.ballots, this.name, words)
     return f"Your ballot, {line}, is in all {len(lists)} lists."
 
 
-def insides_of(
-    mark: str, blocks: Sequence[tuple[bytes, bytes]], line: str, points: Sequence[str]
-) -> list[str]:
-    """What is in each block, as the list of its step has to have it. Raises ValueError unless each
-    has the next one in it, and the last the line.
+def insides_of(mark: str, steps: str, line: str, points: Sequence[str]) -> list[str]:
+    """The ballot as each list has to have it. Raises ValueError or InvalidTag unless each block has
+    the next one in it, and the last the line.
     """
-    options = len(blocks[-1][0]) // 3 - 3 - LAYER // 4
-    if not is_opened(line, options):
+    rows = [row.split(" ") for row in steps.splitlines()]
+    blocks = [block for _, block, _ in rows]
+    options = len(bytes_of(blocks[-1])) // 3 - 3 - LAYER // 4
+    wanted = [*map(bytes_of, blocks[1:]), padded(line, options)]
+    inside = [
+        inside_by(step, bytes_of(point), mark, bytes_of(block), bytes_of(key))
+        for step, (point, (_, block, key)) in enumerate(zip(points, rows), start=1)
+    ]
+    if inside != wanted or len(rows) != len(points) or not is_opened(line, options):
         raise ValueError
-    wanted = [*(block for block, _ in blocks[1:]), padded(line, options)]
-    for step, ((block, key), point) in enumerate(zip(blocks, points), start=1):
-        if inside_by(step, bytes_of(point), mark, block, key) != wanted[step - 1]:
-            raise ValueError
-    return [*map(text_of, wanted[:-1]), line]
+    return [*blocks, line]
 
 
 # ---- the program
-def demand_beside(folder: pathlib.Path, lists: Sequence[List], tellers: Mapping[str, str]) -> None:
-    """Compares the last list with the ballots that are counted, if both are there."""
-    file = folder / "ballots.txt"
-    if not file.exists() or len(lists) <= len(tellers):
-        return
-    rows = [line.split(" ") for line in file.read_text("ascii").splitlines()]
-    ranks = [line.split(" ")[1] for line in lists[-1].ballots]
-    if [row[1:] for row in rows] != [[one] for one in ranks]:
-        raise Bad(file.name, f"it is not {lists[-1].name}, line by line")
-    places = [int(row[0]) for row in rows]
-    if places != [*range(1, len(rows) + 1)]:
-        raise Bad(file.name, "its places are not 1, 2 and so on")
-
-
-def checked(folder: pathlib.Path, own: Sequence[str]) -> list[str]:
+def checked(folder: pathlib.Path, own: Sequence[str]) -> Iterator[str]:
     """What is said of the lists of a folder, and of a ballot. Raises `Bad` at what is wrong."""
-    names = [list_name(step) for step in range(MOST_TELLERS + 1)]
-    lists = [read_list(n, (folder / n).read_bytes()) for n in names if (folder / n).exists()]
-    if not lists:
-        raise Bad("list-0.txt", "it is not here: type this in the folder with the lists")
+    files = [file for step in range(4) if (file := folder / list_name(step)).exists()]
+    demand(files != [], list_name(0), "it is not here: type this in the folder with the lists")
+    lists = [read_list(file.name, file.read_bytes()) for file in files]
     tellers = lists[0].tellers
-    file = folder / "tellers.txt"
-    if file.exists() and tellers_in(file.read_text("ascii").splitlines()) != tellers:
-        raise Bad(file.name, "its tellers are not those of list-0.txt")
     demand_lists(lists, tellers)
-    demand_beside(folder, lists, tellers)
-    said = [
-        f"{one.name}: {len(one.ballots)} ballots, {len(one.refused)} refused; SHA-256 "
-        f"{hashlib.sha256((folder / one.name).read_bytes()).hexdigest()}"
-        for one in lists
-    ]
-    return [*said, *(fate_of_ballot(pathlib.Path(n).read_bytes(), lists, tellers) for n in own)]
+    if (file := folder / "tellers.txt").exists():
+        is_same = tellers_in(file.read_text("ascii")) == tellers
+        demand(is_same, file.name, "its tellers are not those of list-0.txt")
+    if (file := folder / "ballots.txt").exists() and len(lists) > len(tellers):
+        rows = enumerate((line.split(" ")[1] for line in lists[-1].ballots), start=1)
+        found = [line.split(" ") for line in file.read_text("ascii").splitlines()]
+        is_last = [(int(place), *ranks) for place, *ranks in found] == [*rows]
+        demand(is_last, file.name, f"it is not {lists[-1].name}, line by line, by places 1, 2 ..")
+    for one in lists:
+        checksum = hashlib.sha256(one.data).hexdigest()
+        yield f"{one.name}: {len(one.ballots)} ballots, {len(one.refused)} refused; SHA-256 {checksum}"
+    for name in own:
+        yield fate_of_ballot(pathlib.Path(name).read_bytes(), lists, tellers)
 
 
 def main(words: Sequence[str]) -> None:
@@ -352,10 +312,10 @@ def main(words: Sequence[str]) -> None:
         sys.exit(str(__doc__))
     try:
         print(*checked(pathlib.Path(), words), sep="\n")
-    except (Bad, OSError) as fault:
-        sys.exit(str(fault))
-    except ValueError:
-        sys.exit("a file is not as it has to be")
+    except Bad as fault:
+        sys.exit(": ".join(fault.args))
+    except (OSError, ValueError) as fault:
+        sys.exit(f"a file is not as it has to be: {fault}")
 
 
 if __name__ == "__main__":

@@ -55,7 +55,7 @@ def tellers_in(election: Election) -> dict[str, str]:
         "write into it what each teller sent you, a line for each, in the order in which they open"
     )
     try:
-        return lists.tellers_in(read_text(file, LIMIT, write, write).splitlines())
+        return lists.tellers_in(read_text(file, LIMIT, write, write).rstrip("\n") + "\n")
     except ValueError:
         words = (
             "it has to have two or three tellers, each a name and a point, and none of them twice"
@@ -211,9 +211,3 @@ def demand_openable(history: History) -> None:
 def program_files() -> dict[str, bytes]:
     """What lies beside call and result, by which everybody can check the lists."""
     return {"lists.py": resources("debvote_tools.call", "lists.py").encode()}
-
-
-def refused_words(vote: Mapping[str, str], refused: Iterable[str]) -> Iterator[str]:
-    """Whose blocks the first teller refuses, by the electors who sent them."""
-    for block in refused:
-        yield vote.get(block, "a slip on paper")

@@ -133,7 +133,7 @@ class WhatIsNoList(unittest.TestCase):
                 self.refused(data)
         high = tellers.signed(body, "carla", is_high=True).encode()
         self.refused(first, high, words="it is not signed by carla")
-        self.refused(first, changed(second, low, low + "="), words="not signed")
+        self.refused(first, changed(second, low, low + "="), words="no list of a vote")
         self.refused(first, tellers.signed(body, "dora").encode(), words="not signed by carla")
         lists.demand_lists(read(first, tellers.signed(body, "carla").encode(), last), POINTS)
 
@@ -241,7 +241,7 @@ class ListsProgram(unittest.TestCase):
     def test_other_files_beside_the_lists(self):
         for name, old, new, words in (
             ("ballots.txt", "01 2,1,3,-", "01 1,2,3,-", "it is not list-2.txt, line by line"),
-            ("ballots.txt", "02 ", "07 ", "its places are not 1, 2 and so on"),
+            ("ballots.txt", "02 ", "07 ", "it is not list-2.txt, line by line, by places"),
             ("tellers.txt", "dora", "dana", "its tellers are not those of list-0.txt"),
         ):
             file = self.folder / name

@@ -72,7 +72,7 @@ class BadInput(elections.ElectionTest):
         self.refused("codes", "electors have numbers that nobody else knows, and no codes")
 
     def test_no_step_codes_and_other_commands(self):
-        self.refused("tellers list-1.txt", "there is no call for votes yet")
+        self.refused("tellers list-1.txt", "the vote has no tellers")
         self.write("tellers.txt", tellers.tellers_file())
         self.assertNotIn("codes", self.done("check").output)
         said = self.done(CALL).output
