@@ -285,13 +285,8 @@ def insides_of(mark: str, steps: str, line: str, points: Sequence[str]) -> list[
 
 
 # ---- the program
-def checked(folder: pathlib.Path, own: Sequence[str]) -> Iterator[str]:
-    """What is said of the lists of a folder, and of a ballot. Raises `Bad` at what is wrong."""
-    files = [file for step in range(4) if (file := folder / list_name(step)).exists()]
-    demand(files != [], list_name(0), "it is not here: type this in the folder with the lists")
-    lists = [read_list(file.name, file.read_bytes()) for file in files]
-    tellers = lists[0].tellers
-    demand_lists(lists, tellers)
+def demand_beside(folder: pathlib.Path, lists: Sequence[List], tellers: Mapping[str, str]) -> None:
+    """Compares what lies beside the lists, if it does."""
     if (file := folder / "tellers.txt").exists():
         is_same = tellers_in(file.read_text("ascii")) == tellers
         demand(is_same, file.name, "its tellers are not those of list-0.txt")
@@ -300,6 +295,16 @@ def checked(folder: pathlib.Path, own: Sequence[str]) -> Iterator[str]:
         found = [line.split(" ") for line in file.read_text("ascii").splitlines()]
         is_last = [(int(place), *ranks) for place, *ranks in found] == [*rows]
         demand(is_last, file.name, f"it is not {lists[-1].name}, line by line, by places 1, 2 ..")
+
+
+def checked(folder: pathlib.Path, own: Sequence[str]) -> Iterator[str]:
+    """What is said of the lists of a folder, and of a ballot. Raises `Bad` at what is wrong."""
+    files = [file for step in range(4) if (file := folder / list_name(step)).exists()]
+    demand(files != [], list_name(0), "it is not here: type this in the folder with the lists")
+    lists = [read_list(file.name, file.read_bytes()) for file in files]
+    tellers = lists[0].tellers
+    demand_lists(lists, tellers)
+    demand_beside(folder, lists, tellers)
     for one in lists:
         checksum = hashlib.sha256(one.data).hexdigest()
         yield f"{one.name}: {len(one.ballots)} ballots, {len(one.refused)} refused; SHA-256 {checksum}"

@@ -5,7 +5,7 @@ import datetime
 import os
 import shlex
 import shutil
-from collections.abc import Iterator
+from collections.abc import Iterable, Iterator
 
 from debvote_tools import VERSION
 from debvote_tools.book import queries
@@ -117,10 +117,17 @@ def call(election: Election, arguments: Arguments) -> None:
         call_first(election, arguments)
     else:
         call_again(election, arguments)
-    if tellers := election.history().tellers:
-        election.book.note().put_points(election.book.acts()[0].digest, tellers.values())
+    note_tellers(election, election.history().tellers.values())
     make_folders(election)
     tell(*call_in_words(election, current_call(election)))
+
+
+def note_tellers(election: Election, points: Iterable[str]) -> None:
+    """Notes on this machine which keys of tellers the call of this book has."""
+    note = election.book.note()
+    own = election.book.acts()[0].digest
+    if {*points} != {point for point, book in note.points().items() if book == own}:
+        note.put_points(own, points)
 
 
 # ---- the acts
@@ -137,19 +144,26 @@ def call_first(election: Election, arguments: Arguments) -> None:
     with kept_in(faults):
         tellers = tellers_in(election)
         demand_new_points(election.book, tellers)
-    has_tellers = election.path(TELLERS).exists()
     with kept_in(faults):
         draft = checked(election, deadline=detail.get("until"), address=detail.get("to"))
         faults += faults_by_secrecy(arguments, history, draft.questions)
-        if has_tellers:
+        if election.path(TELLERS).exists():
             faults += faults_by_tellers(election, arguments, draft.questions)
         elif draft.lacks_codes:
-            raise Fault(
-                None,
-                "the vote is secret, and electors have no codes",
-                f"run {election.command('codes')} first",
-            )
+            words = "the vote is secret, and electors have no codes"
+            raise Fault(None, words, f"run {election.command('codes')} first")
     stop_at(faults)
+    detail |= announced_first(arguments, history, draft, tellers)
+    act = sealing(election, arguments, detail, draft, keyring)
+    act.do(election.book, history.last.number)
+    tell(*notes_on(election, draft))
+
+
+def announced_first(
+    arguments: Arguments, history: History, draft: Checked, tellers: dict[str, str]
+) -> Detail:
+    """What the first call says, beside what a later one can."""
+    detail: Detail = {}
     if tellers:
         detail |= {"tellers": tellers, "slips": "no"}
     elif arguments.box and draft.questions.is_secret:
@@ -161,9 +175,7 @@ def call_first(election: Election, arguments: Arguments) -> None:
         "quorum_votes": draft.quorums,
         "signed": arguments.keyring is not None,
     }
-    act = sealing(election, arguments, detail, draft, keyring)
-    act.do(election.book, history.last.number)
-    tell(*notes_on(election, draft))
+    return detail
 
 
 def sealing(
@@ -266,18 +278,13 @@ def take_back(election: Election) -> None:
     is_on_roll = history.has_codes_on_roll
     # own marks lapse, and codes: whoever compares the roll of this call with that of the next would
     # see the alias of each elector who is new
-    lapsed = [
-        elector._replace(
-            position=None if is_on_roll else elector.position, code="", alias="", mark=""
-        )
-        for elector in queries.electors(book)
-    ]
+    bare = (one._replace(code="", alias="", mark="") for one in queries.electors(book))
+    lapsed = [elector._replace(position=None) if is_on_roll else elector for elector in bare]
     has_codes = election.questions.is_secret and not history.tellers
     void_codes = len(lapsed) if has_codes else 0
     detail: Detail = {"call": call_act.number, "codes": void_codes}
     Change("take back", detail, electors=lapsed).do(book, history.last.number)
-    if history.tellers:
-        book.note().put_points(book.acts()[0].digest, ())
+    note_tellers(election, ())
     remove_void(election, election.history())
     tell("Took the call back. If anybody has seen it, tell them that it is void.")
     if history.announced("box"):

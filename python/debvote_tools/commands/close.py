@@ -8,7 +8,6 @@ from debvote_tools.book import queries
 from debvote_tools.book.book import Detail, DoneAct
 from debvote_tools.book.change import Change, carried_out, terminal_question
 from debvote_tools.call.secret import seal_line, sealed_checksum
-from debvote_tools.call.tellers import LIST_0, SLIPS_TYPED, VOTED
 from debvote_tools.cli.arguments import Acting, demand_reason, flag, has_reason, option
 from debvote_tools.cli.console import act_time, count_of, tell
 from debvote_tools.cli.faults import Fault, stop_at
@@ -55,9 +54,8 @@ def close(election: Election, arguments: Arguments) -> None:
         carried_out(election.book, lambda: what_is_closed(election, arguments))
     history = election.history()
     act = history.closes[-1]
-    for name in (LIST_0, VOTED, SLIPS_TYPED) if history.tellers else ():
-        file = election.path(name)
-        write_made(file.parent, {file.name: queries.sealed(election.book, name, act.number)}, OWN)
+    if history.tellers:
+        urn.write_sealed(election, act.number)
     path = election.path(LETTERS) / CLOSED
     written = write_made(path.parent, {CLOSED: closing_letter(election, history)}, OWN)
     fixed = fixed_by(act)
@@ -75,22 +73,27 @@ def close(election: Election, arguments: Arguments) -> None:
             f"Checksum of the ballots{label and f' of question {label}'}{' with the random line' if of_one.seal else ''}: {of_one.checksum}"
             for label, of_one in fixed.items()
         ),
-        *([urn.voted_words(history)] if history.tellers else []),
         f"Send {path} to all electors before you count anything.",
+        *what_next(election, history),
     )
+
+
+def what_next(election: Election, history: History) -> Iterator[str]:
     ready = list[str]()
     if history.announced("to"):
         # what writes letters takes a while to be imported
         from debvote_tools.commands.letters import write_ready
 
         ready = write_ready(election, "closed")
-    if history.tellers:
-        tell(*ready, *urn.next_after_close(election, history))
-        return
+        yield from ready
+    path = election.path(LETTERS) / CLOSED
     sending = f"{election.to_all('closed', path, is_ready=bool(ready))}; then "
     # where nobody knows whose each code is, it is sent to all alone
     first = "" if history.has_codes_on_roll else sending
-    tell(*ready, f"Next: {first}{election.command('count')}")
+    if history.tellers:
+        yield from urn.next_after_close(election, history, first)
+    else:
+        yield f"Next: {first}{election.command('count')}"
 
 
 def still_taking_words(election: Election, history: History) -> Iterator[str]:
@@ -175,11 +178,8 @@ def what_is_closed(election: Election, arguments: Arguments) -> Closing:
     history = election.history()
     now = times.now()
     if history.is_closed:
-        raise Fault(
-            None,
-            "another command closed the vote meanwhile",
-            "run the command again: it says what is closed",
-        )
+        words = "another command closed the vote meanwhile"
+        raise Fault(None, words, "run the command again: it says what is closed")
     is_early = history.ends_after(now)
     pending = pending_letters(election, history)
     stopping = what_stops(election, history, "early" if is_early else "close", pending)
@@ -188,24 +188,18 @@ def what_is_closed(election: Election, arguments: Arguments) -> Closing:
         faults.append(too_early(election, history.until, now))
     if not is_forced(arguments):
         faults += stopping.values()
-    sealed = dict[str, bytes]()
-    if history.tellers:
-        faults += urn.faults_of_ballots(election)
+    faults += urn.faults_of_ballots(election) if history.tellers else ()
     stop_at(faults)
-    fixed = {
-        label: what_is_fixed(kept)
-        for label, kept in kept_of(election, history, election.questions).items()
-    }
-    in_urn: Detail = {}
-    if history.tellers:
-        sealed, in_urn, fixed[""] = urn.filled(election, history, arguments.paper)
-    detail = detail_of(election, fixed, pending, is_early=is_early)
+    kept = kept_of(election, history, election.questions)
+    sealed = urn.filled(election, history, arguments.paper) if history.tellers else {}
+    fixed = {label: what_is_fixed(one, sealed) for label, one in kept.items()}
+    detail = detail_of(election, fixed, pending, is_early=is_early) | urn.detail_of(sealed)
     if stopping:
         detail["because"] = demand_reason(arguments.because, "--force")
     came = came_last(election, history, lines_in_words(fixed))
     shown = [came, *pending.passed_over, *other_votes_words(pending.other_votes)]
     question = terminal_question(ALL, arguments.yes)
-    return Closing("close", detail | in_urn, shown=shown, question=question, sealed=sealed)
+    return Closing("close", detail, shown=shown, question=question, sealed=sealed)
 
 
 def too_early(election: Election, until: datetime.datetime, now: datetime.datetime) -> Fault:
@@ -233,7 +227,9 @@ def detail_of(
     return detail
 
 
-def what_is_fixed(kept: Kept) -> Fixed:
-    """What the close fixes of a question."""
+def what_is_fixed(kept: Kept, in_urn: Mapping[str, bytes]) -> Fixed:
+    """What the close fixes of a question; with tellers what is in the urn."""
+    if in_urn:
+        return urn.fixed_by(in_urn)
     seal = seal_line() if kept.poll.secret else ""
     return Fixed(kept.lines, sealed_checksum(seal, kept.public), seal)

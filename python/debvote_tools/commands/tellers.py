@@ -50,32 +50,15 @@ def new_lists(election: Election, history: History, files: dict[str, bytes]) -> 
     gap, and at what a teller may not hand on.
     """
     from debvote_tools.call import sealed_ballots
-    from debvote_tools.call.lists import (
-        Bad,
-        demand,
-        demand_lists,
-        is_signed_by,
-        list_name,
-        read_list,
-    )
+    from debvote_tools.call.lists import Bad, demand, demand_lists, list_name, read_list
 
     assert sealed_ballots
-    points = [*history.tellers.values()]
     try:
-        lists = [
-            read_list(list_name(step), data)
-            for step, data in enumerate(kept_lists(election.book, history))
-        ]
+        lists = [*map(read_list, map(list_name, range(9)), kept_lists(election.book, history))]
         entered = len(lists)
         for this in sorted(map(read_list, files, files.values()), key=lambda one: one.step):
             if this.step < entered:
-                before = lists[this.step]
-                is_theirs = this.step and is_signed_by(
-                    points[this.step - 1], this.signature, this.body
-                )
-                both = f", and {[*history.tellers][this.step - 1]} has signed both"
-                words = f"another {before.name} was entered{both if is_theirs else ''}"
-                demand(this.body == before.body, this.name, words)
+                demand_same(lists[this.step], this, history.tellers)
                 continue
             words = f"the next list is {list_name(len(lists))}, and this is of step {this.step}"
             demand(this.step == len(lists), this.name, words)
@@ -88,6 +71,19 @@ def new_lists(election: Election, history: History, files: dict[str, bytes]) -> 
         cure = "ask for it again; if it stays so, tell all members, and show both"
         raise Fault(where, words, cure) from None
     return lists[entered:]
+
+
+def demand_same(before: "List", this: "List", tellers: dict[str, str]) -> None:
+    """Stops at another list than the one of its step that was entered: the bytes above the
+    signature say so, which each opening makes anew.
+    """
+    from debvote_tools.call.lists import demand, is_signed_by
+
+    words = f"another {before.name} was entered"
+    for name, point in [*tellers.items()][max(0, this.step - 1) : this.step]:
+        is_theirs = is_signed_by(point, this.signature, this.body)
+        words += f", and {name} has signed both" if is_theirs else ""
+    demand(this.body == before.body, this.name, words)
 
 
 def enter(election: Election, this: "List", seen: int) -> None:

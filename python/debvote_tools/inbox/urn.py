@@ -1,6 +1,6 @@
 """What the close of a vote with tellers puts into the urn: clicks and slips, sealed alike."""
 
-from collections.abc import Iterable, Iterator
+from collections.abc import Iterable, Iterator, Mapping
 
 from debvote_tools.book import queries
 from debvote_tools.book.book import Detail
@@ -19,7 +19,7 @@ from debvote_tools.call.tellers import (
 from debvote_tools.cli.console import count_of
 from debvote_tools.cli.faults import Fault, bad_words
 from debvote_tools.election import Election, Fixed, History
-from debvote_tools.files import read_whole, sha256_of
+from debvote_tools.files import OWN, read_whole, sha256_of, write_made
 from debvote_tools.inbox.lines import lines_in, names_of
 from debvote_tools.text.ballots import ballot_file, in_normal_form
 
@@ -66,11 +66,11 @@ def faults_of_equal(
     election: Election, one: CountingBallot, other: CountingBallot
 ) -> Iterator[Fault]:
     """Two electors have sent the same sealed ballot, of whom the later one copied it."""
-    arrived = {
-        (kept.elector, kept.block): (kept.arrived, kept.letter)
-        for kept in reversed(queries.kept_blocks(election.book))
-    }
-    earlier, later = sorted((one, other), key=lambda ballot: arrived[ballot.elector, ballot.block])
+    kept = sorted(queries.kept_blocks(election.book), key=lambda kept: (kept.arrived, kept.letter))
+    senders = [record.elector for record in kept if record.block == one.block]
+    # of one whose time nobody knows the other is the earlier one
+    places = {elector: place for place, elector in reversed([*enumerate(senders)])}
+    earlier, later = sorted((one, other), key=lambda it: places.get(it.elector, len(senders)))
     words = f"{earlier.elector} and {later.elector} have sent the same sealed ballot, {later.elector} later"
     strike = election.command("strike", str(later.envelope), "--because", "TEXT")
     yield Fault(None, words, f"run {strike}, and ask {later.elector} to vote again")
@@ -90,31 +90,22 @@ def slips_in(election: Election, file: str | None) -> list[str]:
     """
     if file is None:
         return []
-    poll = election.decided[""]
+    public = election.decided
+    poll = public[""]
     data = read_whole(file, LIMIT, "write the ranks of each slip on a line", may_wait=True)
-    names = names_of(election.decided, (), election.language)
-    place = poll.roll[0]
-    typed = lines_in(data, file, election.decided.longest_line)
-    lines = list[str]()
-    for line in typed:
-        text = line.unframed.decode("utf-8", "replace").strip()
-        ranked = names.with_ranks(f"{place} {text}")
-        [read] = lines_in(ranked.encode(), file, election.decided.longest_line)
-        lines.append(SPOILT if text == SPOILT else read.repaired.decode("utf-8", "replace"))
-    asked = [line.encode() for line in lines if line != SPOILT]
-    findings = election.debvote.findings(poll.as_bytes(), ballot_file(asked))
-    refused = {asked[finding.line - 1] for finding in findings.refused}
-    wrong = [
-        str(number)
-        for number, line in enumerate(lines, start=1)
-        if line != SPOILT and (line.encode() in refused or not line.startswith(f"{place} "))
-    ]
-    if wrong:
+    with_ranks = names_of(public, (), election.language).with_ranks
+    texts = [line.text.strip() for line in lines_in(data, file, public.longest_line)]
+    ranked = "".join(f"{with_ranks(f'{poll.roll[0]} {text}')}\n" for text in texts)
+    typed = lines_in(ranked.encode("utf-8", "replace"), file, public.longest_line)
+    lines = [line.repaired for line in typed]
+    findings = election.debvote.findings(poll.as_bytes(), ballot_file(lines))
+    refused = sorted(finding.line for finding in findings.refused)
+    if wrong := [str(number) for number in refused if texts[number - 1] != SPOILT]:
         words = f"these lines are not the ranks of a slip: {', '.join(wrong)}"
-        raise bad_words(
-            file, words, f"write {len(poll.names)} ranks, as 2,1,-, or - if it is spoilt"
-        )
-    return [line if line == SPOILT else in_normal_form(line.partition(" ")[2]) for line in lines]
+        cure = f"write {len(poll.names)} ranks, as 2,1,-, or - if it is spoilt"
+        raise bad_words(file, words, cure)
+    ranks = (line.decode().partition(" ")[2] for line in lines)
+    return [SPOILT if text == SPOILT else in_normal_form(one) for text, one in zip(texts, ranks)]
 
 
 def demand_slips(slips: Iterable[str], checked_off: int) -> None:
@@ -135,10 +126,8 @@ def demand_slips(slips: Iterable[str], checked_off: int) -> None:
 
 
 # ---- the urn
-def filled(
-    election: Election, history: History, paper: str | None
-) -> tuple[dict[str, bytes], Detail, Fixed]:
-    """What the close seals, what its act says of it, and what it fixes."""
+def filled(election: Election, history: History, paper: str | None) -> dict[str, bytes]:
+    """What the close seals: the first list, who has voted, and the numbers of slips."""
     public = election.decided
     counting = queries.counting_ballots(election.book)
     blocks = [ballot.block for ballot in counting if ballot.line.endswith(f" {BY_CLICK}")]
@@ -146,32 +135,40 @@ def filled(
     demand_slips(slips, len(counting) - len(blocks))
     unspoilt = [ranks for ranks in slips if ranks != SPOILT]
     sealed = sealed_slips(public[""], public.mark, history.tellers, unspoilt)
-    first = first_list(public.name, public.mark, history.tellers, [*blocks, *sealed.values()])
-    voted = voted_file(dict(ballot.line.split(" ", 1) for ballot in counting))
     # by ranks, so that slips can be numbered for a recount
     numbered = sorted(sealed, key=lambda line: line.split(" ")[::-1])
-    files = {
-        LIST_0: first,
-        VOTED: voted,
+    return {
+        LIST_0: first_list(public.name, public.mark, history.tellers, [*blocks, *sealed.values()]),
+        VOTED: voted_file(dict(ballot.line.split(" ", 1) for ballot in counting)),
         SLIPS_TYPED: "".join(f"{line}\n" for line in numbered).encode(),
     }
-    detail: Detail = {
-        "clicks": len(blocks),
-        "slips": len(unspoilt),
-        "spoilt": len(slips) - len(unspoilt),
-        "voted": sha256_of(voted),
-    }
-    return files, detail, Fixed(len(blocks) + len(unspoilt), sha256_of(first))
 
 
-# ---- what comes next
-def voted_words(history: History) -> str:
-    detail = history.closes[-1].detail
-    return f"Checksum of {VOTED}: {detail['voted']}"
+def detail_of(sealed: Mapping[str, bytes]) -> Detail:
+    """What the act of the close says of it: how many ballots came in each way."""
+    if not sealed:
+        return {}
+    voted = sealed[VOTED]
+    slips = sealed[SLIPS_TYPED].count(b"\n")
+    spoilt = voted.count(b" paper\n") - slips
+    clicks = voted.count(b" click\n")
+    return {"clicks": clicks, "slips": slips, "spoilt": spoilt, "voted": sha256_of(voted)}
 
 
-def next_after_close(election: Election, history: History) -> Iterator[str]:
+def fixed_by(sealed: Mapping[str, bytes]) -> Fixed:
+    detail = detail_of(sealed)
+    return Fixed(detail["clicks"] + detail["slips"], sha256_of(sealed[LIST_0]))
+
+
+def write_sealed(election: Election, close: int) -> None:
+    """Writes what a close has sealed into its folders."""
+    for name in (LIST_0, VOTED, SLIPS_TYPED):
+        file = election.path(name)
+        write_made(file.parent, {file.name: queries.sealed(election.book, name, close)}, OWN)
+
+
+def next_after_close(election: Election, history: History, sending: str) -> Iterator[str]:
     first = next(iter(history.tellers))
-    letters = election.to_all("closed", election.path("letters") / "closed.txt", is_ready=True)
+    yield f"Checksum of {VOTED}: {history.closes[-1].detail['voted']}"
     yield f"Upload {election.path(LIST_0)} beside the page of the call; give {election.path(VOTED)} to the tellers and the meeting alone."
-    yield f"Next: {letters}; then {first} opens list-0.txt in the hall, or after a day, and you enter what comes back: {election.command('tellers', 'LIST')}"
+    yield f"Next: {sending}{first} opens list-0.txt in the hall, or after a day, and you enter what comes back: {election.command('tellers', 'LIST')}"

@@ -143,14 +143,21 @@ class Vote:
         electors = () if self.has_codes else queries.electors(self.book)
         return names_of(self.questions, electors, self.election.language)
 
+    def with_paper(self, line: Line) -> Line:
+        """A line with the ranks of the check-off in place of the word for paper."""
+        if not self.has_tellers:
+            return line
+        ranks = f" {ON_PAPER}".encode()
+        repaired = PAPER_AT_END.sub(ranks, line.repaired)
+        return line._replace(repaired=repaired, named=PAPER_AT_END.sub(ranks, line.named))
+
     def as_meant(self, line: Line) -> tuple[bytes, list[str]]:
         """A line as it was repaired, with the name on the roll of the elector who is meant by its
         name, and with ranks in place of words; and those who may be meant, if they are several.
         """
         names = self.names
         labels = names.labels
-        if self.has_tellers:
-            line = on_paper(line)
+        line = self.with_paper(line)
         # of several answers each is repaired by itself: the first label may be part of the name
         given = line.unframed if labels else line.named
         text = names.with_ranks(given.decode("utf-8", "surrogateescape"))
@@ -222,26 +229,35 @@ class Vote:
         never entered.
         """
         why = f"it has the name of {ENGLISH.joined(list(unclear))}" if unclear else ""
+        if self.has_tellers and not is_check_off(meant):
+            yield CheckedLine(line, meant, line.unframed, NO_CHECK_OFF, NO_CHECK_OFF)
+            return
         # as it came, such a line is no ballot
         findings = refused[line.unframed if why else meant]
         if why and self.names.labels:
             findings = {"": NO_FORM}
-        if self.has_tellers and not meant.endswith(f" {ON_PAPER}".encode()):
-            yield CheckedLine(line, meant, line.unframed, NO_CHECK_OFF, NO_CHECK_OFF)
-        elif not findings:
+        if not findings:
             yield CheckedLine(line, meant, meant)
         elif of_meant := findings.get(""):
             as_it_came = refused[line.unframed].get("", of_meant)
             yield CheckedLine(line, meant, line.unframed, as_it_came, of_meant, why)
         else:
-            name, _, answers = meant.decode("ascii").partition(" ")
-            by_finding = grouped(
-                (findings.get(label), (label, ranks))
-                for label, ranks in ranks_by_label(answers).items()
-            )
-            for finding in sorted(by_finding, key=lambda finding: finding is not None):
-                text = line_of(name, dict(by_finding[finding])).encode()
-                yield CheckedLine(line, meant, text, finding, finding)
+            yield from self.parts(line, meant, findings)
+
+    def parts(
+        self, line: Line, meant: bytes, findings: Mapping[str, Finding]
+    ) -> Iterator[CheckedLine]:
+        """Of a line with several answers the valid ones, and those that are refused for one
+        reason.
+        """
+        name, _, answers = meant.decode("ascii").partition(" ")
+        by_finding = grouped(
+            (findings.get(label), (label, ranks))
+            for label, ranks in ranks_by_label(answers).items()
+        )
+        for finding in sorted(by_finding, key=lambda finding: finding is not None):
+            text = line_of(name, dict(by_finding[finding])).encode()
+            yield CheckedLine(line, meant, text, finding, finding)
 
     def why_each_refused(self, lines: Sequence[bytes]) -> dict[bytes, str | None]:
         """What debvote says of each line, such as `bad rank count: ..`; None for a valid ballot.
@@ -419,11 +435,9 @@ class Vote:
         return words if self.poll else f"{words}; a question may be left out"
 
 
-def on_paper(line: Line) -> Line:
-    """A line with the ranks of the check-off in place of the word for paper."""
-    ranks = f" {ON_PAPER}".encode()
-    repaired = PAPER_AT_END.sub(ranks, line.repaired)
-    return line._replace(repaired=repaired, named=PAPER_AT_END.sub(ranks, line.named))
+def is_check_off(line: bytes) -> bool:
+    """Whether a line says that its elector voted on paper, and nothing else."""
+    return line == b"%b %b" % (name_in(line), ON_PAPER.encode())
 
 
 def numbered(names: Iterable[str]) -> str:

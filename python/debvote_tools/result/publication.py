@@ -27,7 +27,7 @@ from debvote_tools.call.tellers import (
 from debvote_tools.cli.console import in_runs, is_terminal, is_yes, tell_aside
 from debvote_tools.cli.faults import Fault
 from debvote_tools.debvote import casting_words
-from debvote_tools.election import TELLERS, Election, History, fixed_by
+from debvote_tools.election import TELLERS, Election, Fixed, History, fixed_by
 from debvote_tools.files import sha256_of
 from debvote_tools.grouping import grouped
 from debvote_tools.inbox.asked import is_unasked_since_end, other_pages
@@ -87,13 +87,8 @@ def kept_of(election: Election, history: History, labels: Iterable[str]) -> dict
                 by_label[label] = kept_of_question(book, label, election.questions[label])
     if history.is_closed and history.tellers:
         by_label[""] = sealed_to_tellers(book, history, by_label[""])
-    if history.is_closed:
-        for label, kept in by_label.items():
-            fixed = fixed_by(history.closes[-1])[label]
-            checksum = sealed_checksum(fixed.seal, kept.public)
-            if checksum != fixed.checksum:
-                words = f"the ballots have the checksum {checksum}, and the close recorded {fixed.checksum}"
-                raise Fault(None, words, KEEP)
+    for label, kept in by_label.items() if history.is_closed else ():
+        demand_fixed(fixed_by(history.closes[-1])[label], kept)
     for kept in by_label.values():
         findings = election.debvote.findings(kept.poll.as_bytes(), kept.ballots)
         refused = findings.refused
@@ -103,6 +98,14 @@ def kept_of(election: Election, history: History, labels: Iterable[str]) -> dict
         verdicts = {finding.line: finding.verdict for finding in refused}
         demand_kept(election, (verdicts, findings.voters), (kept.refused, len(kept.counting)))
     return by_label
+
+
+def demand_fixed(fixed: Fixed, kept: Kept) -> None:
+    """Stops at ballots that are not those of the close."""
+    checksum = sealed_checksum(fixed.seal, kept.public)
+    if checksum != fixed.checksum:
+        words = f"the ballots have the checksum {checksum}, and the close recorded {fixed.checksum}"
+        raise Fault(None, words, KEEP)
 
 
 def sealed_to_tellers(book: Book, history: History, kept: Kept) -> Kept:
