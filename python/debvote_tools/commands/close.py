@@ -2,7 +2,7 @@
 
 import dataclasses
 import datetime
-from collections.abc import Iterator, Mapping
+from collections.abc import Iterable, Iterator, Mapping
 
 from debvote_tools.book import queries
 from debvote_tools.book.book import Detail, DoneAct
@@ -181,25 +181,39 @@ def what_is_closed(election: Election, arguments: Arguments) -> Closing:
         words = "another command closed the vote meanwhile"
         raise Fault(None, words, "run the command again: it says what is closed")
     is_early = history.ends_after(now)
+    faults = list[Fault]()
     pending = pending_letters(election, history)
     stopping = what_stops(election, history, "early" if is_early else "close", pending)
-    faults = list[Fault]()
     if history.until is not None and is_early and not arguments.early:
-        faults.append(too_early(election, history.until, now))
-    if not is_forced(arguments):
-        faults += stopping.values()
-    faults += urn.faults_of_ballots(election) if history.tellers else ()
-    stop_at(faults)
+        faults = [too_early(election, history.until, now)]
+    stop_at([*faults, *faults_now(election, arguments, stopping.values())])
     kept = kept_of(election, history, election.questions)
     sealed = urn.filled(election, history, arguments.paper) if history.tellers else {}
     fixed = {label: what_is_fixed(one, sealed) for label, one in kept.items()}
     detail = detail_of(election, fixed, pending, is_early=is_early) | urn.detail_of(sealed)
     if stopping:
         detail["because"] = demand_reason(arguments.because, "--force")
-    came = came_last(election, history, lines_in_words(fixed))
-    shown = [came, *pending.passed_over, *other_votes_words(pending.other_votes)]
+    shown = [*what_came(election, history, fixed, pending)]
     question = terminal_question(ALL, arguments.yes)
     return Closing("close", detail, shown=shown, question=question, sealed=sealed)
+
+
+def what_came(
+    election: Election, history: History, fixed: Mapping[str, Fixed], pending: Pending
+) -> Iterator[str]:
+    yield came_last(election, history, lines_in_words(fixed))
+    yield from pending.passed_over
+    yield from other_votes_words(pending.other_votes)
+
+
+def faults_now(
+    election: Election, arguments: Arguments, stopping: Iterable[Fault]
+) -> Iterator[Fault]:
+    """What stands against a close, but for the end: with tellers also what nobody can force."""
+    if not is_forced(arguments):
+        yield from stopping
+    if election.history().tellers:
+        yield from urn.faults_of_ballots(election)
 
 
 def too_early(election: Election, until: datetime.datetime, now: datetime.datetime) -> Fault:
