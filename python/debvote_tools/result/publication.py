@@ -274,7 +274,7 @@ def closing_letter(election: Election, history: History) -> bytes:
         early=early_close(history),
         tellers=history.tellers,
         opened=address_and_time(election, history),
-        void=[fixed_by(act)[""].checksum for act in history.closes[:-1]],
+        void=[fixed_by(act)[""].checksum for act in history.closes[:-1] if history.tellers],
         reasons=[] if questions.is_secret else reasons,
     ).encode()
 
