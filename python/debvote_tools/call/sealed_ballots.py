@@ -1,5 +1,6 @@
-"""The ballots that the page of a vote seals to the secretary: the key pair of a poll, and opening;
-and in a vote with tellers the slips on paper, which the close seals as a page does.
+"""The ballots that the page of a vote seals to the secretary: the key pair of a poll, and opening.
+
+In a vote with tellers the close seals slips on paper here, as a page seals clicks.
 
 Both keys of a poll are made from the key of the box, so an old copy of the book opens all that
 comes later. This and `lists.py` need Debian's python3-cryptography, so they are imported only where
