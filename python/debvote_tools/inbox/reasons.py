@@ -146,7 +146,7 @@ class Reason(enum.Enum):
     )
     ON_PAPER = (
         "{elector} has voted on paper, and clicks do not count",
-        "You voted on paper; clicks do not count.",
+        "The reason: you have voted on paper.",
     )
     BLOCK_OF_OTHER = (
         "the ballot of {elector} is one that another elector sent before",

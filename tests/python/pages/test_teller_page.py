@@ -22,6 +22,7 @@ from tests.support.teller_pages import KEEPING, TellerPage, halves, key_file
 
 # nine ballots, and a spoilt slip
 VOTED = "".join(f"m{n} {'paper' if n > 7 else 'click'}\n" for n in range(10))
+FIVE = "".join(f"m{n} click\n" for n in range(5))
 CARLA, DORA = key_file("carla"), key_file("dora")
 END = datetime.datetime(2099, 12, 4, 18, tzinfo=datetime.UTC)
 
@@ -149,6 +150,8 @@ class Opening(PageTest):
         high = tellers.signed(body, "carla", is_high=True).encode()
         first = lists.read_list("list-0.txt", LISTS[0])
         few = first_list("x", MARK, POINTS, [*first.ballots][:4])
+        garbage = "BA" + "A" * (len(first.ballots[0]) - 2)
+        five = first_list("x", MARK, POINTS, [*[*first.ballots][:4], garbage])
         other_mark = tellers.signed(body.replace(MARK, "0" * 16), "carla").encode()
         before = tellers.signed(body.replace(first.digest, "1" * 64), "carla").encode()
         less = tellers.body_of(first, 1, [], [*first.ballots[:3]])
@@ -213,6 +216,7 @@ class Opening(PageTest):
             ),
             ("fewer", [LISTS[0], less.encode()], VOTED, [DORA], {}, "another number of ballots"),
             ("few", [few], "".join(f"m{n} click\n" for n in range(4)), [CARLA], {}, "fewer than 5"),
+            ("few after opening", [five], FIVE, [CARLA], {}, "fewer than 5"),
             (
                 "too few members",
                 [LISTS[0]],
