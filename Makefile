@@ -1,5 +1,5 @@
 # What a developer calls, by short names. Each target calls what is there; tests/all needs no make.
-.PHONY: help try build check test case edit polls claim all
+.PHONY: help try build check test case edit polls claim all teller
 
 N = 500
 SEED = 1
@@ -12,6 +12,7 @@ try: ## build without any proof, and count two examples; ARGS="check --poll FILE
 
 build: ## prove and build the program, crates/debvote/out/debvote
 	@tests/build
+	@docs/make-teller
 
 check: ## prove the crate CRATE=..
 	@tests/support/near.py crate "$(CRATE)" && cd "crates/$(CRATE)" && rt check
@@ -36,3 +37,6 @@ claim: ## make docs/claim.html from the sources, what one believes when one beli
 
 all: ## prove everything, try all edits, and run all tests: tests/all
 	@tests/all
+
+teller: ## make the pages of the tellers, which are the same for every vote
+	@docs/make-teller

@@ -25,7 +25,12 @@ CALL = "call"
 LETTERS = "letters"
 RESULT = "result"
 PRIVATE = "private"
-MADE = (CALL, LETTERS, RESULT, PRIVATE, POLLS, TEXTS)
+# the lists that tellers are given, and hand on
+URN = "urn"
+MADE = (CALL, LETTERS, RESULT, PRIVATE, POLLS, TEXTS, URN)
+
+# what the secretary writes: the tellers of a secret vote, to whom the page seals
+TELLERS = "tellers.txt"
 
 # the letter of the result for all, in the folder of letters
 RESULT_LETTER = "result.txt"
@@ -85,6 +90,17 @@ class History(NamedTuple):
         go out.
         """
         return self.announced("slips") is not None
+
+    @property
+    def tellers(self) -> dict[str, str]:
+        """The public points of the tellers by their names, if the page seals ballots to them."""
+        return dict(self.announced("tellers") or {})
+
+    @property
+    def handed_on(self) -> list[DoneAct]:
+        """The acts since the last close that entered lists of tellers, one each, in their order."""
+        close = self.closes[-1].number if self.closes else self.last.number
+        return [act for act in self.named("handed on") if act.number > close]
 
     @property
     def has_codes_on_roll(self) -> bool:
@@ -302,14 +318,18 @@ class Election:
         """The questions of the call that holds, or of another one. Stops before the call. From here
         on what people wrote is told as the secrecy of the vote allows.
         """
-        act = (call or self.called(self.history())).number
+        call = call or self.called(self.history())
+        act = call.number
         public = queries.sealed_polls(self.book, POLL, act) or {"": b""}
         counted = queries.sealed_polls(self.book, POLL_WITH_NAMES, act) or public
         motions = queries.sealed_polls(self.book, MOTION, act)
         title = queries.sealed(self.book, TITLE, act).decode()
         try:
-            read = (read_questions(polls, motions, title) for polls in (public, counted))
-            sealed = Sealed(*read)
+            # what is counted under names in a vote with tellers is no motion
+            of_counted = {} if call.detail.get("tellers") else motions
+            sealed = Sealed(
+                read_questions(public, motions, title), read_questions(counted, of_counted, title)
+            )
         except Fault:
             raise damaged(self.path(BOOK_FILE), "its sealed poll is not in plain form") from None
         WHOSE.set(functools.partial(queries.whose, self.book) if sealed.is_aliased else None)
@@ -319,6 +339,12 @@ class Election:
     def questions(self) -> Questions:
         """The questions as ballots are counted. Stops before the call."""
         return self.sealed().counted
+
+    @property
+    def decided(self) -> Questions:
+        """The questions as they are decided: with tellers not the check-off under names."""
+        sealed = self.sealed()
+        return sealed.public if self.history().tellers else sealed.counted
 
     def called(self, history: History) -> DoneAct:
         """The act of the call. Stops before it."""

@@ -18,7 +18,8 @@ from cryptography.hazmat.primitives.ciphers.aead import AESGCM
 from cryptography.hazmat.primitives.kdf.hkdf import HKDF
 
 from debvote_tools.call.box import proof_digest
-from debvote_tools.call.sealed_ballots import ORDER, key_pair
+from debvote_tools.call.lists import ORDER
+from debvote_tools.call.sealed_ballots import key_pair
 from debvote_tools.files import sha256_of
 
 CURVE = ec.SECP256R1()

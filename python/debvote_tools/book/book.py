@@ -75,7 +75,7 @@ SECONDS_BACK = 60
 ActName = (
     Literal["new", "roll", "codes", "call", "extend", "announce", "take back", "addresses"]
     | Literal["letters", "add", "desk", "enter", "set aside", "put back", "undo", "strike"]
-    | Literal["close", "reopen", "publish", "letters out", "letter sent", "moved"]
+    | Literal["close", "reopen", "handed on", "publish", "letters out", "letter sent", "moved"]
 )
 
 
@@ -87,6 +87,7 @@ ActName = (
 #     keyring, codes_on_roll, quorum_votes; call, extend: until, zone
 #   call: offset, of the clock of the computer from UTC, in seconds
 #   call, announce, publish: agreed, the checksums of texts that a secret vote may make public
+#   call: tellers, their points by their names, in the order in which they open
 #   take back: call, its act; codes, how many have lapsed
 #   letters: letters, and box, what the web box had; add: files, lines, letters,
 #     unsigned, and passed_over, how many came before; desk: lines
@@ -96,7 +97,9 @@ ActName = (
 #   close: questions, by label what it fixes of each (`Fixed`); early; left, the letters that had
 #     arrived in time and wait, and waiting, how many these are; after_end and before_call, how many
 #     others wait; replaced_in_time, how many late lines were entered again since the close before
-#     in place of other ballots in time
+#     in place of other ballots in time; with tellers clicks, slips and spoilt, how many each, and
+#     voted, the checksum of that file
+#   handed on: step, the checksum of the list, ballots and refused, how many each
 #   publish: words, casting, ended, how each question did by its label, checksums, doubts, left
 #   letters out: kind, letters, because; letter sent: kind, server, user
 #   moved: why; noted, the act that was noted, and there, the one that is there

@@ -14,11 +14,11 @@ import contextlib
 import json
 import os
 import pathlib
-from collections.abc import Iterator, Mapping
+from collections.abc import Iterable, Iterator, Mapping
 from typing import NamedTuple
 
 from debvote_tools.cli.faults import Fault, Status
-from debvote_tools.files import locked, sha256_of, sync_folder
+from debvote_tools.files import locked, sha256_of, sync_folder, write_whole
 
 MACHINE_ID = pathlib.Path("/etc/machine-id")
 MACHINE_DIGITS = 16
@@ -56,6 +56,8 @@ class MachineNote:
         self.folder = state / "debvote"
         self.path = str(path)
         self.file = self.folder / sha256_of(f"{machine}\n".encode() + os.fsencode(path))[:40]
+        # to which book the call of each key of a teller belongs, that this machine has seen
+        self.points_file = self.folder / "tellers"
         # takes the place of the note
         self.next = self.file.with_suffix(".next")
 
@@ -95,6 +97,23 @@ class MachineNote:
         self.write_next(self.as_bytes(note))
         os.rename(self.next, self.file)
         sync_folder(self.folder)
+
+    def points(self) -> dict[str, str]:
+        """The points of tellers that calls on this machine have, each with its book."""
+        try:
+            return {**json.loads(self.points_file.read_text())}
+        except FileNotFoundError:
+            return {}
+        except (OSError, ValueError, TypeError) as error:
+            reason = f"this computer's note of the keys of tellers can't be read ({error})"
+            raise Fault(self.points_file, reason, "put it right, or remove it", done=None) from None
+
+    def put_points(self, book: str, points: Iterable[str]) -> None:
+        """Notes the points of the call of a book, in place of those of an earlier one."""
+        with self.under_lock():
+            others = {point: other for point, other in self.points().items() if other != book}
+            content = json.dumps(others | dict.fromkeys(points, book)).encode()
+            write_whole(self.points_file, content, 0o600)
 
     def write_next(self, content: bytes) -> None:
         """Writes over what is to take the place of the note, with the room of the longest note."""

@@ -199,17 +199,25 @@ class Ballot(NamedTuple):
     is_by_letter: bool = False
     behind: int = 0
     number: int = NEXT
+    # of a click in a vote with tellers what is sealed to them: the line of each is the same
+    block: str = ""
 
     def may_turn(self, other: "Ballot") -> bool:
         """Whether by the clock of this computer it may stand on the other side of another
         ballot.
         """
         ours, theirs = (one.time + datetime.timedelta(seconds=one.behind) for one in (self, other))
-        return (self.time < other.time) != (ours < theirs) and differ(self.line, other.line)
+        are_other = self.block != other.block or differ(self.line, other.line)
+        return (self.time < other.time) != (ours < theirs) and are_other
 
     @property
     def elector(self) -> str:
         return self.line.partition(" ")[0]
+
+    @property
+    def answers(self) -> Mapping[str, str]:
+        """By the labels of the questions, what two ballots that are alike have in common."""
+        return {"": self.line + self.block} if self.block else answers_of(self.line)
 
     @property
     def labels(self) -> Set[str]:
@@ -450,9 +458,10 @@ def ballots_of(book: Book, names: Collection[str]) -> dict[str, list[Ballot]]:
     some, values = of_electors(elector_numbers(book, names).values())
     # nothing is known of the clock of what came by no letter, or at a time that is not known
     query = f"""
-      SELECT name, time, CAST(line AS TEXT), behind IS NOT NULL, coalesce(behind, 0), envelope
+      SELECT name, time, CAST(line AS TEXT), behind IS NOT NULL, coalesce(behind, 0), envelope, coalesce(block, '')
       FROM valid JOIN elector USING (elector) LEFT JOIN (
-        SELECT letter, known ->> 'behind' AS behind FROM letter WHERE known ->> 'arrived' IS NOT NULL
+        SELECT letter, known ->> 'behind' AS behind, known ->> 'block' AS block
+        FROM letter WHERE known ->> 'arrived' IS NOT NULL
       ) USING (letter) WHERE {some} ORDER BY time, envelope
     """
     rows = book.rows(query, *values)
@@ -622,6 +631,51 @@ def records_since(book: Book, act: int) -> list[KeptRecord]:
       FROM letter JOIN act USING (act) WHERE act > ? AND at IS NOT NULL
     """
     return [KeptRecord(*row) for row in book.rows(query, act)]
+
+
+class CountingBallot(NamedTuple):
+    """The ballot that counts of an elector in a vote with tellers: a line of the check-off, and of
+    a click what is sealed to them; of a line that came by no record that is empty.
+    """
+
+    elector: str
+    line: str
+    block: str
+    envelope: int
+
+
+def counting_ballots(book: Book) -> list[CountingBallot]:
+    statement = """
+      SELECT name, CAST(line AS TEXT), coalesce(known ->> 'block', ''), envelope
+      FROM fate JOIN elector USING (elector) LEFT JOIN letter USING (letter) WHERE became = 'counts' ORDER BY envelope
+    """
+    return [CountingBallot(*row) for row in book.rows(statement)]
+
+
+def electors_with(book: Book, ranks: str) -> set[str]:
+    """The electors who have a ballot in time with these ranks, whatever came after it."""
+    statement = "SELECT DISTINCT name FROM valid JOIN elector USING (elector) WHERE CAST(line AS TEXT) = name || ' ' || ?"
+    return {name for name, in book.rows(statement, ranks)}
+
+
+class KeptBlock(NamedTuple):
+    """What a record has that is sealed to tellers, whose it is, and when it arrived by the host."""
+
+    block: str
+    elector: str
+    arrived: datetime.datetime
+    letter: int
+
+
+def kept_blocks(book: Book) -> list[KeptBlock]:
+    statement = """
+      SELECT known ->> 'block' AS block, known ->> 'elector', known ->> 'arrived', letter FROM letter
+      WHERE block <> '' AND known ->> 'arrived' IS NOT NULL
+    """
+    rows = book.rows(statement)
+    return [
+        KeptBlock(block, elector, from_text(time), letter) for block, elector, time, letter in rows
+    ]
 
 
 def source_of(book: Book, source: int) -> bytes:

@@ -7,6 +7,11 @@ CREATE TEMP VIEW refused AS SELECT envelope FROM ballot WHERE answer IS NOT NULL
 
 CREATE TEMP VIEW valid AS SELECT * FROM ballot WHERE answer IS NULL;
 
+-- Of each envelope what its ballot says: its line, and of a click in a vote with tellers what is sealed to them.
+CREATE TEMP VIEW said AS
+  SELECT envelope, CAST(line AS TEXT) || coalesce((SELECT known ->> 'block' FROM letter WHERE letter.letter = entered.letter), '') AS said
+  FROM entered;
+
 -- The late lines that are not struck.
 CREATE TEMP VIEW late AS SELECT envelope FROM entered WHERE late AND struck IS NULL;
 
@@ -19,7 +24,8 @@ CREATE TEMP VIEW taken_back AS SELECT envelope FROM struck WHERE act IN (SELECT 
 
 CREATE TEMP VIEW lost AS
   SELECT envelope FROM came_valid AS gone WHERE envelope IN taken_back AND NOT EXISTS (
-    SELECT 1 FROM valid AS again WHERE elector = gone.elector AND envelope > gone.envelope AND line = gone.line AND (
+    SELECT 1 FROM valid AS again WHERE elector = gone.elector AND envelope > gone.envelope AND line = gone.line
+      AND (SELECT said FROM said WHERE said.envelope = again.envelope) = (SELECT said FROM said WHERE said.envelope = gone.envelope) AND (
       EXISTS (SELECT 1 FROM came_valid WHERE elector = gone.elector AND +struck = gone.struck AND envelope > gone.envelope) OR NOT EXISTS (
         SELECT 1 FROM valid JOIN came_valid AS earlier USING (elector, line) WHERE elector = gone.elector AND line <> gone.line
           AND valid.envelope > again.envelope AND earlier.envelope < gone.envelope AND earlier.envelope IN taken_back

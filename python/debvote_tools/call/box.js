@@ -14,7 +14,6 @@
   const KIND = { "Content-Type": "application/x-www-form-urlencoded" };
   // in milliseconds
   const PATIENCE = 30000;
-  const CURVE = { name: "ECDH", namedCurve: "P-256" };
 
   const byId = (id) => document.getElementById(id);
   const form = byId("Ballot");
@@ -63,30 +62,20 @@
     const text = state ? words[state].replace("{time}", spoken(sent.time)).replace("{end}", spoken(until)) : "";
     // else a screen reader reads it again
     if (byId("Sent").textContent !== text) byId("Sent").textContent = text;
+    globalThis.tellNumber?.(sent, now.link === sent.link && fate);
   }
 
   const spoken = (time) => new Date(time).toLocaleString(document.documentElement.lang, { dateStyle: "medium", timeStyle: "long" });
 
-  const bytesOf = (text) => new TextEncoder().encode(text);
-  const hexOf = (buffer) => [...new Uint8Array(buffer)].map((byte) => byte.toString(16).padStart(2, "0")).join("");
-
-  // A proof that the link is known, a number, and what is sealed. Each key pair seals once, so the nonce may be zero.
-  async function bodyOf({ line, link, time }, tries = 50) {
+  // A proof that the link is known, a number, and what is sealed; in a vote with tellers their layers are in that.
+  async function bodyOf(ballot, tries = 500) {
+    const { line, link, time } = ballot;
     const number = hexOf(crypto.getRandomValues(new Uint8Array(16)));
     const proof = hexOf(await subtle.digest("SHA-256", bytesOf(`${mark} ${link}`)));
-    const to = Uint8Array.from(atob(seal), (sign) => sign.charCodeAt(0));
-    const { publicKey, privateKey } = await subtle.generateKey(CURVE, false, ["deriveBits"]);
-    const own = new Uint8Array(await subtle.exportKey("raw", publicKey));
-    const ecdh = { ...CURVE, public: await subtle.importKey("raw", to, CURVE, false, []) };
-    const shared = await subtle.importKey("raw", await subtle.deriveBits(ecdh, privateKey, 256), "HKDF", false, ["deriveKey"]);
-    const info = new Uint8Array([...bytesOf("debvote box 2\n"), ...own, ...to]);
-    const hkdf = { name: "HKDF", hash: "SHA-256", salt: new Uint8Array(), info };
-    const key = await subtle.deriveKey(hkdf, shared, { name: "AES-GCM", length: 256 }, false, ["encrypt"]);
-    const gcm = { name: "AES-GCM", iv: new Uint8Array(12), additionalData: bytesOf(`${mark} ${number}`) };
-    const data = await subtle.encrypt(gcm, key, bytesOf(`${line}\n${link}\n${time}`.padEnd(length, "\n")));
-    const sealed = btoa(String.fromCharCode(...own, ...new Uint8Array(data)));
-    const body = `box=${page} ${proof} ${number}\n${sealed.replaceAll("+", "-").replaceAll("/", "_")}\n`;
-    return tries && SQL.test(body) ? bodyOf({ line, link, time }, tries - 1) : body;
+    ballot.inside ??= (await globalThis.layered?.(ballot, length)) ?? `${line}\n${link}\n${time}`.padEnd(length, "\n");
+    const { sealed } = await sealedTo(pointIn(seal), "debvote box 2", `${mark} ${number}`, bytesOf(ballot.inside));
+    const body = `box=${page} ${proof} ${number}\n${base64Of(sealed)}\n`;
+    return tries && SQL.test(body) ? bodyOf(ballot, tries - 1) : body;
   }
 
   async function answerTo(body) {

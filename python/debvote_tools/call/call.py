@@ -12,12 +12,19 @@ from debvote_tools.book import queries
 from debvote_tools.book.book import Detail
 from debvote_tools.book.queries import Elector
 from debvote_tools.call import box
-from debvote_tools.election import LETTER_TEXT, Election, History, Sealed
+from debvote_tools.call.form import PACKAGE, OF_BOX, script_of_form, style_of_form, tellers_script
+from debvote_tools.call.tellers import (
+    fingerprints,
+    program_files,
+    script_line,
+    tellers_file,
+)
+from debvote_tools.election import LETTER_TEXT, TELLERS, Election, History, Sealed
 from debvote_tools.files import sha256_of
 from debvote_tools.poll.questions import Questions
 from debvote_tools.poll.sealed import SealedPoll, in_brackets
 from debvote_tools.text.language import Language, marked
-from debvote_tools.text.rendering import render_letter, render_page, resources
+from debvote_tools.text.rendering import render_letter, render_page
 
 # a first line that greets: it ends as one does, or begins so in one of the languages
 GREETING = re.compile(
@@ -28,8 +35,6 @@ GREETING = re.compile(
 
 SUBJECT = marked("Ballot: {title}")
 
-
-PACKAGE = "debvote_tools.call"
 
 # the sentences of the script on the page
 SENTENCES = marked(
@@ -43,6 +48,13 @@ SENTENCES = marked(
         "more": "Read on",
         "selected": "The line is selected. Copy it with Ctrl+C, or Cmd+C on a Mac; on a telephone hold a finger on it.",
         "copied": "The line is copied.",
+    }
+)
+OF_TELLERS = marked(
+    {
+        "sealed_to": "Sealed to {name} {fingerprint}: compare with your letter.",
+        "number": "Your number: {number}. Write it down, show it to nobody. In the result it has to stand beside your ranks. If you vote again, the new one holds.",
+        "perhaps": "If it arrived, your number is {number}. Write it down, show it to nobody.",
     }
 )
 OF_SEVERAL = marked(
@@ -85,6 +97,8 @@ class CallData:
     has_lapsed_codes: bool
     # the script beside the page takes no ballots now, as letters say
     is_without_box: bool = False
+    # the points of the tellers by their names, if the page seals ballots to them
+    tellers: Mapping[str, str] = dataclasses.field(default_factory=dict)
 
     @property
     def is_by_name(self) -> bool:
@@ -137,6 +151,21 @@ class CallData:
         if self.has_box:
             link = box.personal_link(self.box_key, elector.name, elector.mark)
         return f"{self.at}#{link}"
+
+    @property
+    def teller_names(self) -> str:
+        return self.language.joined(list(self.tellers))
+
+    @property
+    def fingerprints(self) -> str:
+        return fingerprints(self.tellers)
+
+    @property
+    def teller_checksum(self) -> str:
+        """Of the page with which tellers open ballots."""
+        from debvote_tools.call.teller_page import teller_checksum
+
+        return teller_checksum(self.language)
 
     @property
     def page(self) -> str:
@@ -236,22 +265,25 @@ def call_letter(call: CallData, *, is_extension: bool = False) -> str:
 
 
 def call_page(call: CallData) -> bytes:
-    styles = ["ballot.css"]
-    scripts = ["ballot.js"]
+    styles = list[str]()
+    scripts = list[str]()
     sentences = dict(SENTENCES)
     if call.questions.is_several:
         styles += ["questions.css"]
         sentences |= OF_SEVERAL
     if call.has_box:
-        styles += ["box.css"]
-        scripts += ["box.js"]
+        styles += OF_BOX
+        scripts += ["bytes.js", "sealing.js", "box.js"]
         sentences |= box.SENTENCES | (box.SECRET_SENTENCES if call.is_by_click else {})
+    if call.tellers:
+        sentences |= OF_TELLERS
     return render_page(
         PACKAGE,
         "page.html",
         call.language,
-        style=resources(PACKAGE, "fields.css", "given.css", *styles),
-        script=resources(PACKAGE, "names.js", "fold.js", *scripts),
+        style=style_of_form(*styles),
+        script=tellers_script() if call.tellers else script_of_form(*scripts),
+        line=script_line(call.tellers) if call.tellers else "",
         sends=call.has_box,
         call=call,
         script_words=call.language.words(sentences),
@@ -265,6 +297,8 @@ def call_files(call: CallData) -> dict[str, bytes]:
     files = {"index.html": call_page(call), "call.txt": call_letter(call).encode()}
     if not call.has_codes_on_roll:
         files |= call.questions.files
+    if call.tellers:
+        files |= {TELLERS: tellers_file(call.tellers)} | program_files()
     checksums = "".join(f"{sha256_of(files[name])}  {name}\n" for name in sorted(files))
     return files | {"SHA256SUMS": checksums.encode()}
 
@@ -301,6 +335,7 @@ def current_call(
         has_aliases=sealed.is_aliased,
         has_codes_on_roll=now.has_codes_on_roll,
         has_lapsed_codes=any(act.detail.get("codes") for act in now.named("take back")),
+        tellers=dict(value_of("tellers") or {}),
     )
 
 

@@ -1,34 +1,38 @@
 """The ballots that the page of a vote seals to the secretary: the key pair of a poll, and opening.
 
-Both keys are made from the key of the box, so an old copy of the book opens all that comes later.
-This alone needs Debian's python3-cryptography, so it is imported only where a page is made or a
-record opened.
+In a vote with tellers the close seals slips on paper here, as a page seals clicks.
+
+Both keys of a poll are made from the key of the box, so an old copy of the book opens all that
+comes later. This and `lists.py` need Debian's python3-cryptography, so they are imported only where
+a page is made, a record opened, or a list read.
 """
 
 import base64
 import functools
 import hmac
-from collections.abc import Callable
+from collections.abc import Callable, Sequence
 
 from debvote_tools.cli.faults import Fault
 
 try:
     from cryptography.exceptions import InvalidTag
     from cryptography.hazmat.primitives.asymmetric import ec
-    from cryptography.hazmat.primitives.ciphers.aead import AESGCM
-    from cryptography.hazmat.primitives.hashes import SHA256
-    from cryptography.hazmat.primitives.kdf.hkdf import HKDF
-    from cryptography.hazmat.primitives.serialization import Encoding, PublicFormat
+
+    from debvote_tools.call.lists import (
+        CURVE,
+        NONCE,
+        ORDER,
+        POINT,
+        bytes_of,
+        cipher,
+        layer,
+        padded,
+        point_of,
+        text_of,
+    )
 except ImportError:
     words = "this computer can seal and open no ballot"
     raise Fault("--box", words, "install python3-cryptography") from None
-
-CURVE = ec.SECP256R1()
-# the order of its group (SP 800-186, 3.2.1.3); in bytes, an uncompressed point
-ORDER = 0xFFFFFFFF00000000FFFFFFFFFFFFFFFFBCE6FAADA7179E84F3B9CAC2FC632551
-POINT = 65
-# each key seals once
-NONCE = bytes(12)
 
 
 @functools.cache
@@ -40,7 +44,7 @@ def key_pair(key: bytes, mark: str) -> tuple[str, Callable[[str, str], str]]:
     # from more bits than it has (FIPS 186-5, A.2.1)
     number = int.from_bytes(hmac.digest(key, f"seal {mark}".encode(), "sha512"))
     private = ec.derive_private_key(number % (ORDER - 1) + 1, CURVE)
-    public = private.public_key().public_bytes(Encoding.X962, PublicFormat.UncompressedPoint)
+    public = point_of(private)
     return base64.b64encode(public).decode(), functools.partial(opened, private, public, mark)
 
 
@@ -50,10 +54,17 @@ def opened(
     data = base64.b64decode(text, b"-_", validate=True)
     # behind a shorter point, which may be compressed, is nothing that could be opened
     point = data[:POINT]
-    secret = private.exchange(ec.ECDH(), ec.EllipticCurvePublicKey.from_encoded_point(CURVE, point))
-    one_key = HKDF(SHA256(), 32, None, b"debvote box 2\n" + point + public).derive(secret)
+    opening = cipher(private, point, "debvote box 2", point, public)
     try:
-        inside = AESGCM(one_key).decrypt(NONCE, data[POINT:], f"{mark} {number}".encode())
+        inside = opening.decrypt(NONCE, data[POINT:], f"{mark} {number}".encode())
     except InvalidTag:
         raise ValueError from None
     return inside.decode("ascii").rstrip("\n")
+
+
+def block_of(line: str, options: int, mark: str, points: Sequence[str]) -> str:
+    """A number with its ranks, sealed to the tellers with these points, to the last one first."""
+    block = padded(line, options)
+    for step, point in reversed([*enumerate(points, start=1)]):
+        block = layer(step, bytes_of(point), mark, block, ec.generate_private_key(CURVE))
+    return text_of(block)

@@ -8,7 +8,8 @@ import secrets
 from collections.abc import Collection, Iterable, Mapping, Sequence
 
 from debvote_tools.book.queries import Elector
-from debvote_tools.call.call import PACKAGE, CallData
+from debvote_tools.call.call import CallData
+from debvote_tools.call.form import PACKAGE
 from debvote_tools.cli.faults import Fault
 from debvote_tools.files import sha256_of
 from debvote_tools.poll.codes import codes_in
@@ -117,6 +118,18 @@ def lines_of_slip(call: CallData, electors: Sequence[Elector]) -> float:
     more = sum(len(text.encode()) // COLUMNS for text in texts) + 2 * len(heads)
     options = [len(name.encode()) for poll in polls for name in poll.names]
     return 17 + more + sum(0.5 if long <= 20 else long // COLUMNS + 1 for long in options)
+
+
+def blank_slips(call: CallData, number: int) -> bytes:
+    """The page of slips for a vote with tellers, with no name, link or mark on them."""
+    [poll] = call.questions.values()
+    lines = 9 + len(poll.name.encode()) // COLUMNS
+    lines += sum(len(name.encode()) // COLUMNS + 2 for name in poll.names)
+    rows = next((rows for rows, most in ROWS.items() if lines <= most), 1)
+    style = resources(PACKAGE, "slips.css")
+    return render_page(
+        PACKAGE, "blank_slips.html", call.language, style=style, poll=poll, number=number, rows=rows
+    )
 
 
 # ---- aliases

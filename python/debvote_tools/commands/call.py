@@ -6,15 +6,25 @@ import os
 import shlex
 import shutil
 import time
-from collections.abc import Iterator
+from collections.abc import Iterable, Iterator
 
+from debvote_tools import VERSION
 from debvote_tools.book import queries
 from debvote_tools.book.book import ActName, Detail
 from debvote_tools.book.change import Change
 from debvote_tools.call.box import SCRIPT, box_files, records_file, script_address
 from debvote_tools.call.call import CallData, call_files, call_letter, current_call, until_of
 from debvote_tools.call.draft import letter_text_in, texts_of
-from debvote_tools.call.secret import aliased, demand_no_code
+from debvote_tools.call.secret import aliased, blank_slips, demand_no_code
+from debvote_tools.call.teller_page import teller_checksum, teller_file
+from debvote_tools.call.tellers import (
+    FEWEST,
+    check_off,
+    demand_new_points,
+    fingerprints,
+    public_poll,
+    tellers_in,
+)
 from debvote_tools.cli.arguments import Acting, flag, given, option
 from debvote_tools.cli.console import act_time, is_terminal, is_yes, tell
 from debvote_tools.cli.faults import Fault, bad_words, kept_in, stop_at
@@ -35,6 +45,7 @@ from debvote_tools.election import (
     LETTERS,
     LETTER_TEXT,
     PRIVATE,
+    TELLERS,
     Election,
     History,
     Sealed,
@@ -111,9 +122,18 @@ def call(election: Election, arguments: Arguments) -> None:
         call_first(election, arguments)
     else:
         call_again(election, arguments)
+    note_tellers(election, election.history().tellers.values())
     make_folders(election)
     tell(*call_in_words(election, current_call(election)))
     tell_next(election)
+
+
+def note_tellers(election: Election, points: Iterable[str]) -> None:
+    """Notes on this machine which keys of tellers the call of this book has."""
+    note = election.book.note()
+    own = election.book.acts()[0].digest
+    if {*points} != {point for point, book in note.points().items() if book == own}:
+        note.put_points(own, points)
 
 
 # ---- the acts
@@ -137,17 +157,33 @@ def call_first(election: Election, arguments: Arguments) -> None:
         keyring = keyring_in(election, arguments.keyring)
     with kept_in(faults):
         demand_read(election, history)
+    tellers = dict[str, str]()
+    with kept_in(faults):
+        tellers = tellers_in(election)
+        demand_new_points(election.book, tellers)
     with kept_in(faults):
         draft = checked(election, deadline=detail.get("until"), address=detail.get("to"))
         faults += faults_by_secrecy(arguments, history, draft.questions)
-        if draft.lacks_codes:
-            raise Fault(
-                None,
-                "the vote is secret, and electors have no codes",
-                f"run {election.command('codes')} first",
-            )
+        if election.path(TELLERS).exists():
+            faults += faults_by_tellers(election, arguments, draft.questions)
+        elif draft.lacks_codes:
+            words = "the vote is secret, and electors have no codes"
+            raise Fault(None, words, f"run {election.command('codes')} first")
     stop_at(faults)
-    if arguments.box and draft.questions.is_secret:
+    detail |= announced_first(arguments, history, draft, tellers)
+    act = sealing(election, arguments, detail, draft, keyring)
+    act.do(election.book, history.last.number)
+    tell(*notes_on(election, draft))
+
+
+def announced_first(
+    arguments: Arguments, history: History, draft: Checked, tellers: dict[str, str]
+) -> Detail:
+    """What the first call says, beside what a later one can."""
+    detail: Detail = {}
+    if tellers:
+        detail |= {"tellers": tellers, "slips": "no"}
+    elif arguments.box and draft.questions.is_secret:
         detail["slips"] = arguments.slips or asked_slips()
     detail |= {
         "offset": time.localtime().tm_gmtoff,
@@ -157,9 +193,7 @@ def call_first(election: Election, arguments: Arguments) -> None:
         "quorum_votes": draft.quorums,
         "signed": arguments.keyring is not None,
     }
-    act = sealing(election, arguments, detail, draft, keyring)
-    act.do(election.book, history.last.number)
-    tell(*notes_on(election, draft))
+    return detail
 
 
 def sealing(
@@ -173,6 +207,9 @@ def sealing(
     electors = queries.electors(election.book)
     questions = draft.questions
     public = aliased(questions, electors) if questions.is_secret else questions
+    if "tellers" in detail:
+        public = public_poll(questions)
+        questions = check_off(questions)
     sealed = Sealed(public, questions)
     files = sealed_by(election, arguments, detail, draft.letter_text, sealed)
     if keyring is not None:
@@ -259,15 +296,13 @@ def take_back(election: Election) -> None:
     is_on_roll = history.has_codes_on_roll
     # own marks lapse, and codes: whoever compares the roll of this call with that of the next would
     # see the alias of each elector who is new
-    lapsed = [
-        elector._replace(
-            position=None if is_on_roll else elector.position, code="", alias="", mark=""
-        )
-        for elector in queries.electors(book)
-    ]
-    void_codes = len(lapsed) if election.questions.is_secret else 0
+    bare = (one._replace(code="", alias="", mark="") for one in queries.electors(book))
+    lapsed = [elector._replace(position=None) if is_on_roll else elector for elector in bare]
+    has_codes = election.questions.is_secret and not history.tellers
+    void_codes = len(lapsed) if has_codes else 0
     detail: Detail = {"call": call_act.number, "codes": void_codes}
     Change("take back", detail, electors=lapsed).do(book, history.last.number)
+    note_tellers(election, ())
     remove_void(election, election.history())
     tell("Took the call back. If anybody has seen it, tell them that it is void.")
     if history.announced("box"):
@@ -290,7 +325,9 @@ def remove_void(election: Election, history: History) -> None:
     for kind in ("call", "reminders"):
         shutil.rmtree(election.path(LETTERS) / kind, ignore_errors=True)
     last = history.named("codes", "take back")[-1]
-    if last.name == "take back" and last.detail.get("codes"):
+    if last.name != "take back":
+        return
+    if last.detail.get("codes") or history.act(last.detail["call"]).detail.get("tellers"):
         write_made(election.path(PRIVATE), {}, OWN, (SLIPS, CODES))
 
 
@@ -318,7 +355,7 @@ def sealed_by(
         for name, content in files.items():
             demand_no_code(name, content, codes)
         if sealed or LETTER_TEXT in files:
-            texts = texts_of(sealed.counted) if sealed else {}
+            texts = texts_of(sealed.public) if sealed else {}
             # letter.txt begins the letter to all
             texts |= {letter_text: LETTER_TEXT}
             detail["agreed"] = agreed_texts(election.history(), texts, is_agreed=arguments.yes)
@@ -370,6 +407,24 @@ def faults_by_secrecy(
             "codes are on the roll, and the result would show whoever keeps the web host whose each is",
             LEAVE_OUT,
         )
+
+
+def faults_by_tellers(
+    election: Election, arguments: Arguments, questions: Questions
+) -> Iterator[Fault]:
+    """What stands against a vote in which the page seals ballots to tellers."""
+    electors = queries.electors(election.book)
+    if not (questions.is_secret and arguments.box) or questions.is_several:
+        words = "tellers open the ballots of a secret vote about one question, by clicks"
+        yield bad_words(TELLERS, words, "write secret = true into the poll, and call with --box")
+    if any(elector.code for elector in electors) or election.history().has_codes_on_roll:
+        words = "electors have codes, and with tellers nobody may have one"
+        yield bad_words(TELLERS, words, "begin anew in another folder")
+    if arguments.slips:
+        yield bad_words("--slips", "with tellers slips have no codes", LEAVE_OUT)
+    if len(electors) < FEWEST:
+        words = f"of fewer than {FEWEST} electors the numbers tell how each voted"
+        yield bad_words(TELLERS, words, "hold the vote otherwise")
 
 
 def asked_slips() -> str:
@@ -450,7 +505,11 @@ def make_folders(election: Election) -> None:
     extension = queries.sealed(book, f"{LETTERS}/{EXTENSION}")
     if extension and history.since_call("extend"):
         write_made(election.path(LETTERS), {EXTENSION: extension}, OWN)
-    if election.questions.is_secret:
+    if history.tellers:
+        call = current_call(election, history)
+        slips = blank_slips(call, len(election.questions.roll))
+        write_made(election.path(PRIVATE), {SLIPS: slips}, OWN, (SLIPS, CODES))
+    elif election.questions.is_secret:
         write_slips(election, election.sealed())
 
 
@@ -462,6 +521,11 @@ def call_in_words(election: Election, data: CallData) -> Iterator[str]:
     if data.has_codes_on_roll:
         yield "Codes are on the roll: the call has the checksum of the poll, but no poll.toml."
         yield f"Print {slips}, cut the slips out, and let each elector draw one."
+    elif data.tellers:
+        page = teller_file(data.language)
+        yield f"Page and letter seal to, and name: {fingerprints(data.tellers)}. Each teller tells members the own fingerprint by another way."
+        yield f"Tellers look at the page, and open, with {page} of version {VERSION}, SHA-256 {teller_checksum(data.language)}, which they get elsewhere than from you."
+        yield f"Print {slips} for those who vote on paper: nothing on a slip tells whose it is."
     elif data.has_aliases:
         yield "The vote is secret: the poll of the call has aliases, and the folder has no names of electors."
         yield (

@@ -2,6 +2,7 @@
 
 import itertools
 import operator
+import os
 import pathlib
 import re
 from collections.abc import Iterator, Mapping, Sequence
@@ -29,7 +30,15 @@ from debvote_tools.call.members import AGAIN, Roll, label_of, roll_of
 from debvote_tools.cli.arguments import Options
 from debvote_tools.cli.console import count_of, listed, quorum_words, shown_text, tell, wrapped
 from debvote_tools.cli.faults import Fault, bad_words, kept_in, stop_at
-from debvote_tools.election import LETTER_TEXT, MEMBERS_FILE, POLLS, TEXTS, Election, History
+from debvote_tools.election import (
+    LETTER_TEXT,
+    MEMBERS_FILE,
+    POLLS,
+    TELLERS,
+    TEXTS,
+    Election,
+    History,
+)
 from debvote_tools.files import TABLE_LIMIT, read_whole
 from debvote_tools.inbox.letter_text import reading_of
 from debvote_tools.inbox.lines import names_of
@@ -125,7 +134,8 @@ def checked_by_debvote(
     stop_at(faults_of_ballots(election, questions, letter_text))
     electors = queries.electors(election.book)
     has_codes = election.history().has_codes_on_roll or all(elector.code for elector in electors)
-    return Checked(questions, quorums, letter_text, questions.is_secret and not has_codes)
+    needs_codes = questions.is_secret and not os.path.lexists(election.path(TELLERS))
+    return Checked(questions, quorums, letter_text, needs_codes and not has_codes)
 
 
 def drafts_in(election: Election, roll: Sequence[str], faults: list[Fault]) -> dict[str, DraftPoll]:

@@ -2,17 +2,18 @@
 
 import dataclasses
 import datetime
-from collections.abc import Iterator, Mapping
+from collections.abc import Iterable, Iterator, Mapping
 
 from debvote_tools.book import queries
 from debvote_tools.book.book import Detail, DoneAct
 from debvote_tools.book.change import Change, carried_out, terminal_question
 from debvote_tools.call.secret import seal_line, sealed_checksum
-from debvote_tools.cli.arguments import Acting, demand_reason, flag, has_reason
+from debvote_tools.cli.arguments import Acting, demand_reason, flag, has_reason, option
 from debvote_tools.cli.console import act_time, count_of, tell
 from debvote_tools.cli.faults import Fault, stop_at
 from debvote_tools.election import LETTERS, Election, Fixed, History, fixed_by
 from debvote_tools.files import OWN, write_made
+from debvote_tools.inbox import urn
 from debvote_tools.inbox.asking import ask_before_close
 from debvote_tools.inbox.stopping import (
     Pending,
@@ -38,17 +39,24 @@ class Arguments(Acting):
         "With --because: close although letters wait that arrived in time, or the web box was not asked since the end; the "
         "result page says so"
     )
+    paper: str | None = option(
+        "FILE",
+        "In a vote with tellers: the slips on paper, on each line the ranks of one, or - if it is spoilt; as many as are checked off",
+    )
     yes: bool = flag("Close without asking whether all ballots are in")
 
 
 def close(election: Election, arguments: Arguments) -> None:
     """Close the vote; lines that are entered later are late, and do not count."""
     election.demand_right_book(arguments)
+    urn.demand_tellers(election.history(), arguments.paper)
     if is_new := not election.history().is_closed:
         ask_first(election, arguments)
         carried_out(election.book, lambda: what_is_closed(election, arguments))
     history = election.history()
     act = history.closes[-1]
+    if history.tellers:
+        urn.write_sealed(election, act.number)
     path = election.path(LETTERS) / CLOSED
     written = write_made(path.parent, {CLOSED: closing_letter(election, history)}, OWN)
     fixed = fixed_by(act)
@@ -68,6 +76,8 @@ def close(election: Election, arguments: Arguments) -> None:
         ),
         f"Send {path} to all electors before you count anything.",
     )
+    if history.tellers:
+        tell(*urn.voted_words(election, history))
     if history.announced("to"):
         # what writes letters takes a while to be imported
         from debvote_tools.commands.letters import write_ready
@@ -158,31 +168,42 @@ def what_is_closed(election: Election, arguments: Arguments) -> Closing:
     history = election.history()
     now = times.now()
     if history.is_closed:
-        raise Fault(
-            None,
-            "another command closed the vote meanwhile",
-            "run the command again: it says what is closed",
-        )
+        words = "another command closed the vote meanwhile"
+        raise Fault(None, words, "run the command again: it says what is closed")
     is_early = history.ends_after(now)
+    faults = list[Fault]()
     pending = pending_letters(election, history)
     stopping = what_stops(election, history, "early" if is_early else "close", pending)
-    faults = list[Fault]()
     if history.until is not None and is_early and not arguments.early:
-        faults.append(too_early(election, history.until, now))
-    if not is_forced(arguments):
-        faults += stopping.values()
-    stop_at(faults)
-    fixed = {
-        label: what_is_fixed(kept)
-        for label, kept in kept_of(election, history, election.questions).items()
-    }
-    detail = detail_of(election, fixed, pending, is_early=is_early)
+        faults = [too_early(election, history.until, now)]
+    stop_at([*faults, *faults_now(election, arguments, stopping.values())])
+    kept = kept_of(election, history, election.questions)
+    sealed = urn.filled(election, history, arguments.paper) if history.tellers else {}
+    fixed = {label: what_is_fixed(one, sealed) for label, one in kept.items()}
+    detail = detail_of(election, fixed, pending, is_early=is_early) | urn.detail_of(sealed)
     if stopping:
         detail["because"] = demand_reason(arguments.because, "--force")
-    came = came_last(election, history, lines_in_words(fixed))
-    shown = [came, *other_votes_words(pending.other_votes)]
-    shown += words_of(election, Step.RECEIPTS)
-    return Closing("close", detail, shown=shown, question=terminal_question(ALL, arguments.yes))
+    shown = [*what_came(election, history, fixed, pending), *words_of(election, Step.RECEIPTS)]
+    question = terminal_question(ALL, arguments.yes)
+    return Closing("close", detail, shown=shown, question=question, sealed=sealed)
+
+
+def what_came(
+    election: Election, history: History, fixed: Mapping[str, Fixed], pending: Pending
+) -> Iterator[str]:
+    yield came_last(election, history, lines_in_words(fixed))
+    yield from pending.passed_over
+    yield from other_votes_words(pending.other_votes)
+
+
+def faults_now(
+    election: Election, arguments: Arguments, stopping: Iterable[Fault]
+) -> Iterator[Fault]:
+    """What stands against a close, but for the end: with tellers also what nobody can force."""
+    if not is_forced(arguments):
+        yield from stopping
+    if election.history().tellers:
+        yield from urn.faults_of_ballots(election)
 
 
 def too_early(election: Election, until: datetime.datetime, now: datetime.datetime) -> Fault:
@@ -210,7 +231,9 @@ def detail_of(
     return detail
 
 
-def what_is_fixed(kept: Kept) -> Fixed:
-    """What the close fixes of a question."""
+def what_is_fixed(kept: Kept, in_urn: Mapping[str, bytes]) -> Fixed:
+    """What the close fixes of a question; with tellers what is in the urn."""
+    if in_urn:
+        return urn.fixed_by(in_urn)
     seal = seal_line() if kept.poll.secret else ""
     return Fixed(kept.lines, sealed_checksum(seal, kept.public), seal)

@@ -1,5 +1,6 @@
 """The command `codes`, and the folder of slips."""
 
+import os
 from collections.abc import Iterator, Sequence
 
 from debvote_tools.book import queries
@@ -12,7 +13,7 @@ from debvote_tools.cli.arguments import Acting, flag
 from debvote_tools.cli.console import count_of, tell
 from debvote_tools.cli.faults import Fault
 from debvote_tools.commands.check import checked, demand_read
-from debvote_tools.election import POLLS, PRIVATE, Election, Sealed
+from debvote_tools.election import POLLS, PRIVATE, TELLERS, Election, Sealed
 from debvote_tools.files import OWN, write_made
 from debvote_tools.outbox.steps import Step, tell_next
 from debvote_tools.poll.questions import POLL_FILE, Questions
@@ -32,6 +33,9 @@ class Arguments(Acting):
 def codes(election: Election, arguments: Arguments) -> None:
     """Make a secret code for each elector of a secret vote, before the call."""
     election.demand_right_book(arguments)
+    if election.history().tellers or os.path.lexists(election.path(TELLERS)):
+        words = f"with {TELLERS} electors have numbers that nobody else knows, and no codes"
+        raise Fault(None, words, f"run {election.command('call')}")
     if election.history().call is None:
         questions, number = make_codes(election, arguments)
         sealed = Sealed(questions, questions)

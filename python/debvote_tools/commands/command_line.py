@@ -22,7 +22,7 @@ PHASES = {
     "To begin": "call letters backup",
     "Each day": "add desk held",
     "Near the end": "status",
-    "To end": "close",
+    "To end": "close tellers",
     "After it": "count publish",
     "If something is wrong": "show undo strike reopen log export",
 }

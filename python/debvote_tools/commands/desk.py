@@ -320,7 +320,7 @@ def whole_lines() -> Iterator[bytes]:
 # ---- at a terminal
 def at_terminal(desk: Desk) -> None:
     vote = desk.vote
-    for label, poll in vote.questions.items():
+    for label, poll in () if vote.has_tellers else vote.questions.items():
         if vote.poll is None or vote.poll is poll:
             tell(*([f"{label} {poll.name}"] if label else []))
             tell(*(f"  {number} {name}" for number, name in enumerate(poll.names, start=1)))
@@ -328,7 +328,9 @@ def at_terminal(desk: Desk) -> None:
     if vote.poll is None:
         order = "then for each question that is answered its label, and a rank for each option in this order"
     tell(
-        f"Type a ballot as {vote.right_line} ({'the code' if vote.has_codes else 'the elector'}, {order}); q ends."
+        f"{vote.right_words()} q ends."
+        if vote.has_tellers
+        else f"Type a ballot as {vote.right_line} ({'the code' if vote.has_codes else 'the elector'}, {order}); q ends."
     )
     if words := desk.answer_in_letters():
         tell(f"In place of the ranks of a motion: {', '.join(words)}.")

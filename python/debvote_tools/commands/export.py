@@ -5,6 +5,7 @@ import pathlib
 import re
 
 from debvote_tools.book import queries
+from debvote_tools.call.tellers import are_all_opened, last_ballots
 from debvote_tools.cli.arguments import Options, flag, positional
 from debvote_tools.cli.console import demand_yes, tell
 from debvote_tools.cli.faults import bad_words
@@ -49,12 +50,18 @@ def export(election: Election, arguments: Arguments) -> None:
 def exported(election: Election) -> dict[str, bytes]:
     book = election.book
     questions = election.questions
+    decided = election.decided
     files = dict[str, bytes]()
     with book.snapshot():
         for label in queries.each_question_alone(book):
-            files[place_of(label, "poll.toml")] = questions[label].as_bytes()
+            files[place_of(label, "poll.toml")] = decided[label].as_bytes()
             files[place_of(label, "ballots.txt")] = ballot_file(queries.lines_to_count(book))
         files["ballots.txt"] = ballot_file(queries.lines_to_count(book))
+        if election.history().tellers:
+            # who has voted, and in which way, beside what was opened
+            files["check-off.toml"] = questions[""].as_bytes()
+            files["check-off.txt"] = files["ballots.txt"]
+            files["ballots.txt"] = opened_ballots(election)
         files["late.txt"] = ballot_file(queries.lines(book, "envelope IN late"))
         # what came has its number before its name, which is no path and has no characters that a
         # shell reads
@@ -62,6 +69,15 @@ def exported(election: Election) -> dict[str, bytes]:
             safe = UNSAFE.sub("-", name.rpartition("/")[2])[-LONGEST_FILE_NAME:].strip(".")
             files[f"came/{number:05}-{safe or 'file'}"] = data
     return files
+
+
+def opened_ballots(election: Election) -> bytes:
+    """The ballots that the tellers have opened; none before the last list."""
+    history = election.history()
+    if not (history.is_closed and are_all_opened(history)):
+        return b""
+    ballots = last_ballots(election.book, history, election.decided.roll).items()
+    return ballot_file(f"{place} {ranks}".encode() for place, (_, ranks) in ballots)
 
 
 def demand_new(election: Election, target: pathlib.Path, what: str) -> None:

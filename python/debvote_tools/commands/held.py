@@ -442,6 +442,11 @@ def why_not_now(vote: Vote, history: History, chosen: Sequence[Chosen]) -> Itera
             if any(ballot.is_late for ballot in again):
                 words = f"{words}, and is late"
             yield Fault(name, words, what_then(vote, letter, one.lines, again))
+        elif letter.outcome is LetterOutcome.PASSED_OVER and letter.reason:
+            yield Fault(name, for_secretary(letter.reason), "leave it out")
+        elif vote.has_tellers and not letter.read.block and any(line.number for line in one.lines):
+            cure = f"of who voted on paper type NAME paper: {vote.election.command('held', str(letter.number), '--as')} LINE"
+            yield Fault(name, "the page alone seals ballots, and this is none", cure)
         elif letter.outcome is LetterOutcome.COPY:
             yield Fault(
                 name,

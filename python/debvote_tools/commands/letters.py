@@ -222,6 +222,8 @@ def demand_codes(history: History, arguments: Arguments) -> None:
     """Stops at codes where letters have no link beside them, and unless somebody agrees to both."""
     if not arguments.codes:
         return
+    if history.tellers:
+        raise Fault("--codes", "in a vote with tellers nobody has a code", "leave it out")
     if not history.is_secret_by_click:
         raise bad_words("--codes", "only in a secret vote with a web box", "leave it out")
     if not (arguments.yes or is_agreed(CODES, "write them")):
@@ -254,7 +256,9 @@ def notes_on(due: LettersDue, by_place: ByPlace) -> Iterator[str]:
         if names := [due.electors[letter.elector].name for letter in letters if not letter.address]:
             yield f"Without an address: {listed(names, MOST)}. Print {folder}/{letter_folder.TO_PRINT}."
             if due.kind == "call" and not due.composer.call_data.letter_text:
-                yield f"Note: these letters do not say where a ballot on paper goes. Say it in letter.txt, run {due.election.command('call')}, and write them again."
+                tellers = due.composer.call_data.tellers
+                unsaid = "slips are given out" if tellers else "a ballot on paper goes"
+                yield f"Note: these letters do not say where {unsaid}. Say it in letter.txt, run {due.election.command('call')}, and write them again."
     if due.in_no_receipt:
         yield f"No receipt is about these letters that wait, since no elector alone has the sender's address: {listed(list(map(str, due.in_no_receipt)), MOST)}"
     if due.letters_pending:

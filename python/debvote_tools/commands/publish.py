@@ -105,7 +105,7 @@ def publish(election: Election, arguments: Arguments) -> int:
     history = election.history()
     publication.demand_countable(election, history)
     target = pathlib.Path(arguments.target or election.path(RESULT))
-    given = published_words(arguments, election.questions, election.called(history))
+    given = published_words(arguments, election.decided, election.called(history))
     demand_place(election, target, history)
     last = history.last_publication
     is_bare = given == PublishedWords(is_forced=arguments.force)

@@ -5,13 +5,21 @@ from collections.abc import Iterator
 from debvote_tools.book import queries
 from debvote_tools.book.change import Change, carried_out, terminal_question
 from debvote_tools.cli.arguments import Acting, demand_reason, flag, option
-from debvote_tools.cli.console import act_time, listed, shown_line, tell
+from debvote_tools.call.call import current_call
+from debvote_tools.call.form import PACKAGE
+from debvote_tools.call.tellers import demand_openable
+from debvote_tools.cli.console import act_time, is_terminal, is_yes, listed, shown_line, tell
 from debvote_tools.cli.faults import Fault
-from debvote_tools.election import Election, History
+from debvote_tools.election import LETTERS, Election, History, fixed_by
+from debvote_tools.files import OWN, write_made
 from debvote_tools.grouping import grouped
 from debvote_tools.inbox.taking import MOST_NAMED
 from debvote_tools.inbox.vote import Vote
 from debvote_tools.outbox.steps import tell_next
+from debvote_tools.text.rendering import render_letter
+
+# the letter to all about a list that nobody opens
+VOID = "void.txt"
 
 
 class Arguments(Acting):
@@ -31,11 +39,19 @@ def reopen(election: Election, arguments: Arguments) -> None:
         "Of new ballots only those that arrived before the first close count: add and desk ask.",
         "What is late stays late: if it arrived before, enter it again, with add FILE --came-before-close yes or at a desk.",
     )
+    if history.tellers:
+        write_made(election.path(LETTERS), {VOID: void_letter(election, history)}, OWN)
+        tell(
+            f"Send {election.path(LETTERS)}/{VOID} to all electors now: nobody may open the list of before."
+        )
     tell_next(election)
 
 
 def what_is_reopened(election: Election, arguments: Arguments, because: str) -> Change:
-    demand_closed(election, election.history())
+    history = election.history()
+    demand_closed(election, history)
+    if history.tellers:
+        demand_unopened(history)
     told = "Everybody will read this reason."
     if election.questions.is_secret:
         told = "Only the log tells this reason."
@@ -70,9 +86,32 @@ def late_words(vote: Vote, history: History) -> Iterator[str]:
         yield f"{what} ({len(shown)}): {listed(shown, MOST_NAMED)}"
 
 
+def demand_unopened(history: History) -> None:
+    """Stops unless somebody says that the first teller has not opened the list of the close: of two
+    lists that are opened the difference shows how somebody voted. No option answers it.
+    """
+    first = next(iter(history.tellers))
+    question = f"Does {first} say that list 0 was not opened?"
+    if not (is_terminal() and is_yes(question)):
+        words = f"nobody says that {first} has not opened list 0"
+        raise Fault(
+            None,
+            words,
+            "ask first, and run the command at a terminal; if it was opened, hold the vote anew with new keys",
+        )
+
+
+def void_letter(election: Election, history: History) -> bytes:
+    """The letter to all that nobody opens the list of the last close."""
+    checksum = fixed_by(history.closes[-1])[""].checksum
+    call = current_call(election, history)
+    return render_letter(PACKAGE, "void.txt", call.language, call=call, checksum=checksum).encode()
+
+
 def demand_closed(election: Election, history: History) -> None:
     if not history.is_closed:
         raise Fault(None, "the vote is not closed", f"see {election.command('status')}")
+    demand_openable(history)
     if history.has_codes_on_roll and history.named("publish"):
         raise Fault(
             None,

@@ -51,7 +51,7 @@ def roll(election: Election, arguments: Arguments) -> None:
         keep_electors(book, roll, history.last.number)
         tell(*roll_in_words(roll, election.language))
     else:
-        is_secret = election.questions.is_secret
+        is_secret = election.questions.is_secret and not history.tellers
         went = outgoing.call_addresses(book, history.call.number) if is_secret else {}
         changes |= {
             member: changes_in_words(member, went) for member in roll.electors if member.changes
@@ -142,7 +142,7 @@ def make_anew(election: Election, history: History) -> None:
     """Makes what depends on own marks, and so on addresses: the slips, and the script of the
     box.
     """
-    if election.questions.is_secret:
+    if election.questions.is_secret and not history.tellers:
         write_slips(election, election.sealed())
     if history.announced("box") and not history.closes:
         files = {SCRIPT: queries.sealed(election.book, BOX_SCRIPT)}
@@ -178,7 +178,7 @@ def changes_in_words(member: Member, went: Mapping[str, Sequence[str]]) -> str:
 def changed_words(election: Election, changed: Mapping[Member, str]) -> Iterator[str]:
     for member, words in changed.items():
         yield f"{member.name}: {words}"
-    if election.questions.is_secret:
+    if election.questions.is_secret and not election.history().tellers:
         yield f"Made {SLIPS} and {CODES} in {election.path(PRIVATE)} anew: a new address has a new mark."
     yield f"{count_of(len(changed), 'elector')} changed; the result page says how many."
 

@@ -22,6 +22,7 @@ from debvote_tools.cli.faults import Fault, stop_at
 from debvote_tools.election import Election, History
 from debvote_tools.inbox import letter_words
 from debvote_tools.inbox.asked import asked_last, asked_words, with_lost_records
+from debvote_tools.inbox.urn import faults_of_ballots, few_slips_words
 from debvote_tools.inbox.stopping import Pending, pending_letters, taken_out_words
 from debvote_tools.inbox.vote import Vote, envelope_words
 from debvote_tools.outbox.reached import unreached_and_printed
@@ -88,6 +89,7 @@ def state_of(election: Election, history: History, counting: Mapping[str, str]) 
         "stage": history.stage,
         "electors": len(electors),
         **queries.numbers(book)._asdict(),
+        **voters_in_urn(history),
         "late": len(queries.lines(book, "envelope IN late")),
         "struck": len(history.since_call("strike")),
         "taken_back": len(queries.lost(book)),
@@ -120,6 +122,14 @@ def still_refused(book: Book, counting: Mapping[str, str]) -> list[Envelope]:
     ]
 
 
+def voters_in_urn(history: History) -> State:
+    """With tellers, after the close, how many ballots they open: no spoilt slip is among them."""
+    if not (history.tellers and history.is_closed):
+        return {}
+    detail = history.closes[-1].detail
+    return {"voters": detail["clicks"] + detail["slips"]}
+
+
 def questions_in(election: Election, history: History, *, has_late: bool) -> State:
     """The numbers of each of several questions."""
     book = election.book
@@ -141,7 +151,9 @@ def stage_words(election: Election, history: History, state: State) -> Iterator[
         return
     questions = election.questions
     yield f"Title: {questions.name}"
-    if questions.is_secret:
+    if history.tellers:
+        yield f"The vote is secret, and its ballots are sealed to {', '.join(history.tellers)}. Keep the output of this command to yourself."
+    elif questions.is_secret:
         yield f"The vote is secret: ballots are published under {'codes' if history.has_codes_on_roll else 'aliases'}. Keep the output of this command to yourself."
     if history.until is not None:
         yield f"End of the vote: {times.time_in_words(history.until)}{'; that time has passed' if times.now() >= history.until else ''}"
@@ -173,6 +185,9 @@ def state_words(
         yield taken_out_words(election, history)
     yield f"Electors with a valid ballot: {state['voters']} of {state['electors']}"
     yield from asked_words(history)
+    if history.tellers and not history.is_closed:
+        yield from (f"Before the close: {fault.reason}" for fault in faults_of_ballots(election))
+        yield from few_slips_words(election)
     yield from named(
         "Ballots that nobody can open, and no later ones, by the links of", state["lost"]
     )

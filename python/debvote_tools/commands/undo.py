@@ -6,6 +6,7 @@ from collections.abc import Iterator, Sequence
 from debvote_tools.book import outgoing, queries
 from debvote_tools.book.book import Book, DoneAct
 from debvote_tools.book.change import Change, carried_out, terminal_question
+from debvote_tools.call.tellers import demand_openable
 from debvote_tools.cli.arguments import Acting, flag
 from debvote_tools.cli.console import act_time, count_of, tell
 from debvote_tools.cli.faults import Fault
@@ -109,6 +110,7 @@ def what_else_changes(book: Book, struck: Sequence[int], letters: Sequence[int])
 
 
 def demand_open(election: Election, history: History) -> None:
+    demand_openable(history)
     if history.is_closed:
         raise Fault(
             None,

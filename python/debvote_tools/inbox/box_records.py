@@ -32,7 +32,8 @@ from debvote_tools.call.box import (
 )
 from debvote_tools.cli.console import count_of, listed, shown_text
 from debvote_tools.cli.faults import Fault, bad_words
-from debvote_tools.election import BOX_KEY, BOX_PAGE, Election, History
+from debvote_tools.call.tellers import has_right_block
+from debvote_tools.election import BOX_KEY, BOX_PAGE, POLL, Election, History
 from debvote_tools.files import sha256_of
 from debvote_tools.grouping import grouped
 from debvote_tools.inbox.asked import has_list_of_now, has_page_of_now, last_box, with_lost_records
@@ -40,7 +41,7 @@ from debvote_tools.inbox.letter import YEAR, arrival_of
 from debvote_tools.inbox.mailbox import BEGIN, NotRead, RawLetter
 from debvote_tools.inbox.vote import Vote
 from debvote_tools.patience import within
-from debvote_tools.poll.sealed import OWN, OWN_SIGNS
+from debvote_tools.poll.sealed import OWN, OWN_SIGNS, read_plain
 from debvote_tools.text import times
 
 # in seconds and in bytes: how long an answer may take and be
@@ -95,9 +96,10 @@ RECORD = re.compile(
 )
 PROOF = re.compile(r"X-Proof: (\w+)")
 # what is sealed: a line and the elector on it, their personal link, in it the own mark and the
-# third part, and the time by their device
+# third part, and the time by their device; in a vote with tellers what is sealed to them
 INSIDE = re.compile(
-    rf"(([a-z0-9.-]{{1,32}}) [A-Z0-9, -]+)\n(\2/({OWN})/([{OWN_SIGNS}]{{{LINK_LENGTH}}}))\n({YEAR}-\d\d-\d\dT\d\d:\d\d:\d\d\.\d{{3}}Z)"
+    rf"(([a-z0-9.-]{{1,32}}) [A-Z0-9, -]+)\n(\2/({OWN})/([{OWN_SIGNS}]{{{LINK_LENGTH}}}))\n({YEAR}-\d\d-\d\dT\d\d:\d\d:\d\d\.\d{{3}}Z)(?:\n([\w-]+))?",
+    re.ASCII,
 )
 
 
@@ -373,16 +375,33 @@ def opened(book: Book, raw: RawLetter) -> RawLetter:
         head, proof, rest, mark, number, sealed = record.groups()
         with contextlib.suppress(ValueError):
             inside = INSIDE.fullmatch(key_pair(key, mark)[1](number, sealed))
-            line, elector, link, own, third, sent = inside.groups() if inside else [""] * 6
+            parts = inside.groups() if inside else [""] * 7
+            line, elector, link, own, third, sent, block = (part or "" for part in parts)
             true = personal_link(key, elector, own)
-            if (link, proof) == (true, proof_digest(mark, true)):
+            is_true = (link, proof) == (true, proof_digest(mark, true))
+            if is_true and is_for_tellers(book, line, block, len(sealed)):
                 # for people who read the letter: the program has these values beside it
                 fields = f"X-Link: {third}\nX-Sealed: {raw.digest}\nX-Sent: {sent}\n"
+                fields += f"X-Block: {block}\n" if block else ""
                 data = f"{head}{fields}{rest}{line}\n-- \n".encode()
                 return dataclasses.replace(
-                    raw, data=data, link=third, elector=elector, sent=from_text(sent)
+                    raw,
+                    data=data,
+                    link=third,
+                    elector=elector,
+                    sent=from_text(sent),
+                    block=block,
                 )
     return dataclasses.replace(raw, why_not_read=NotRead.SEALED)
+
+
+def is_for_tellers(book: Book, line: str, block: str, length: int) -> bool:
+    """Whether a record has what is sealed to tellers if the vote has some, and only then."""
+    history = History(book.acts())
+    if not (tellers := history.tellers) or history.call is None:
+        return not block
+    poll = read_plain(queries.sealed(book, POLL, history.call.number))
+    return has_right_block(poll, len(tellers), line, block, length)
 
 
 def whose(vote: Vote, records: Sequence[RawLetter], asked: datetime.datetime) -> dict[str, str]:

@@ -11,9 +11,12 @@ import functools
 import itertools
 import operator
 from collections.abc import Collection, Iterable, Mapping, Sequence, Set
+from typing import Any
 
 from debvote_tools.book import queries
-from debvote_tools.book.queries import Ballot, KeptLetter
+from debvote_tools.book.book import Book
+from debvote_tools.book.queries import Ballot, KeptBlock, KeptLetter
+from debvote_tools.call.tellers import ON_PAPER
 from debvote_tools.election import BOX_KEY, KEYRING, History
 from debvote_tools.grouping import grouped
 from debvote_tools.inbox.letter import Body
@@ -23,7 +26,6 @@ from debvote_tools.inbox.reasons import Reason, ReasonWithValues
 from debvote_tools.inbox.rules import Circumstances, LetterCase, LetterOutcome
 from debvote_tools.inbox.vote import Vote
 from debvote_tools.text import times
-from debvote_tools.text.ballots import answers_of
 
 # what becomes of a letter, and why it waits or was set aside
 Judgement = tuple[LetterOutcome, ReasonWithValues | None]
@@ -66,7 +68,7 @@ class ElectorBallots:
         next_others = dict[str, list[int]]()
         for label, ballots in self.by_label.items():
             ends = next_others[label] = []
-            for _, run in itertools.groupby(answers_of(ballot.line)[label] for ballot in ballots):
+            for _, run in itertools.groupby(ballot.answers[label] for ballot in ballots):
                 alike = [*run]
                 ends += [len(ends) + len(alike)] * len(alike)
         return next_others
@@ -103,7 +105,7 @@ class ElectorBallots:
 
     def first_other(
         self,
-        ballot: str,
+        own: Ballot,
         begin: datetime.datetime,
         end: datetime.datetime,
         known: Collection[int] = (),
@@ -112,11 +114,11 @@ class ElectorBallots:
         a question in another way than a ballot. Of thousands that are alike it looks at one.
         """
         others = []
-        for label, ranks in answers_of(ballot).items():
+        for label, answer in own.answers.items():
             ballots = self.by_label.get(label, [])
             at = bisect.bisect_left(ballots, begin, key=TIME)
             while at < len(ballots) and ballots[at].time < end:
-                is_other = answers_of(ballots[at].line)[label] != ranks
+                is_other = ballots[at].answers[label] != answer
                 if is_other and ballots[at].number not in known:
                     others.append(ballots[at])
                     break
@@ -126,7 +128,7 @@ class ElectorBallots:
     def has_other_at_once(self, own: Ballot) -> bool:
         """Whether another answer to a question has the same time as one in a ballot of a letter."""
         end = own.time + datetime.timedelta(seconds=1)
-        return self.first_other(own.line, own.time, end) is not None
+        return self.first_other(own, own.time, end) is not None
 
     def turned(self, own: Ballot) -> Ballot | None:
         """The first one that may stand on the other side of a ballot by the clock of this computer:
@@ -229,7 +231,20 @@ def circumstances_now(vote: Vote, history: History) -> Circumstances:
         is_closed=history.is_closed,
         now=times.now(),
         box_key=queries.sealed(book, BOX_KEY),
+        **of_tellers(book, history),
     )
+
+
+def of_tellers(book: Book, history: History) -> dict[str, Any]:
+    """What letters of a vote with tellers are judged by, too."""
+    if not history.tellers:
+        return {}
+    first: dict[str, KeptBlock] = {}
+    for kept in queries.kept_blocks(book):
+        before = first.setdefault(kept.block, kept)
+        first[kept.block] = min(before, kept, key=lambda one: (one.arrived, one.letter))
+    on_paper = queries.electors_with(book, ON_PAPER)
+    return {"has_tellers": True, "on_paper": on_paper, "first_blocks": first}
 
 
 # ---- one letter beside the others
@@ -254,6 +269,8 @@ def judge_all(cases: Iterable[LetterCase], by_elector: BallotsByElector) -> list
         if case.outcome is LetterOutcome.WAITS and not case.is_decided and case.other_vote:
             case.outcome = LetterOutcome.OTHER_VOTE
             case.reason = Reason.OTHER_MARK(mark=case.other_vote)
+        elif case.outcome is LetterOutcome.WAITS and not case.is_decided and case.is_passed_over:
+            case.outcome = LetterOutcome.PASSED_OVER
         case.voted_since = voted_since(case, by_elector)
     return cases
 
@@ -263,7 +280,7 @@ def ballot_in(case: LetterCase, ballot: str) -> Ballot:
     when it is entered.
     """
     time = case.time or case.circumstances.now
-    return Ballot(time, ballot, case.time is not None, case.read.behind)
+    return Ballot(time, ballot, case.time is not None, case.read.behind, block=case.read.block)
 
 
 def voted_since(case: LetterCase, by_elector: BallotsByElector) -> dict[str, bool]:
@@ -396,8 +413,9 @@ def outcome_of_copy(
     known = {ballot.number for ballot in original.entered}
     typed = (ballot.line for ballot in original.not_taken_back if ballot.is_typed)
     for line in (*(ballot.as_entered for ballot in case.ballots), *typed):
-        elector = line.partition(" ")[0]
-        if between := by_elector[elector].first_other(line, begin, end, known):
+        own = ballot_in(original, line)
+        elector = own.elector
+        if between := by_elector[elector].first_other(own, begin, end, known):
             return LetterOutcome.WAITS, Reason.CAME_BEFORE(
                 elector=elector, time=case.time, first=original.time, between=between.time
             )

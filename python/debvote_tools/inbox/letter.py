@@ -173,7 +173,7 @@ def parse(raw: RawLetter) -> ParsedLetter:
     return ParsedLetter(
         where=raw.where,
         digest=raw.digest,
-        identity=identity_of(letter, sender or " ".join(senders), body),
+        identity=identity_of(letter, f"{sender or ' '.join(senders)}{raw.block}", body),
         is_parted_off=raw.is_parted_off,
         sender=sender,
         shown_sender=", ".join(map(decoded, senders)),

@@ -106,6 +106,8 @@ class OfBox:
     sent_before: datetime.datetime | None = None
     # whether it is from the file of the box, which somebody downloaded by hand
     is_fetched: bool = False
+    # in a vote with tellers: what is sealed to them
+    block: str = ""
 
     def is_dated_alike(self, arrived: datetime.datetime) -> bool:
         """Whether its device and the web host, of which it has this time, date it alike."""

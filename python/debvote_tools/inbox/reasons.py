@@ -139,6 +139,19 @@ class Reason(enum.Enum):
         "the clock of the web host was off, so it may be earlier or later than another ballot of {elector}, of {time}",
         LOOKED_AT,
     )
+    # of a vote with tellers
+    NOT_SEALED = (
+        "a ballot that somebody can read does not count in this vote: set it aside, and ask its sender to use the page, or to vote on paper",
+        "The reason: in this vote nobody may read a ballot, so none can come by e-mail. Open the link in your letter, or vote on paper.",
+    )
+    ON_PAPER = (
+        "{elector} has voted on paper, and clicks do not count",
+        "The reason: you have voted on paper.",
+    )
+    BLOCK_OF_OTHER = (
+        "the ballot of {elector} is one that another elector sent before",
+        "The reason: another elector sent the same sealed ballot before. Open the page anew, and vote again.",
+    )
     # where the ballot is
     NO_BALLOT = "no ballot found", NO_BALLOT_IN_IT
     NOT_ALONE = "line {number} is a ballot, and there are other lines", ALONE

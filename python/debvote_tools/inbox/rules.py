@@ -16,7 +16,7 @@ import itertools
 from collections.abc import Collection, Mapping, Sequence
 
 from debvote_tools.book import queries
-from debvote_tools.book.queries import Elector, EnteredBallot, KeptLetter, OwnMark
+from debvote_tools.book.queries import NEXT, Elector, EnteredBallot, KeptBlock, KeptLetter, OwnMark
 from debvote_tools.call.box import third_part
 from debvote_tools.cli.console import for_terminals
 from debvote_tools.grouping import grouped
@@ -42,6 +42,8 @@ class LetterOutcome(enum.Enum):
     COPY = "copy"
     # its elector has a later ballot by letter, so it can count in no case
     OLDER = "older"
+    # in a vote with tellers: its elector voted on paper, or it is that of another elector
+    PASSED_OVER = "passed over"
     # an act decided; a letter whose envelope was struck is set aside, too
     ENTERED = "entered"
     SET_ASIDE = "set aside"
@@ -78,6 +80,11 @@ class Circumstances:
     # whether lines with what looks like a code or an alias are told: in a secret vote with names on
     # the roll
     tells_codes: bool = False
+    # whether ballots are sealed to tellers, as the page alone does; the electors who have voted on
+    # paper; and of what is sealed to them the first record that had it, by the host
+    has_tellers: bool = False
+    on_paper: Collection[str] = ()
+    first_blocks: Mapping[str, KeptBlock] = dataclasses.field(default_factory=dict)
 
     @property
     def ends(self) -> list[datetime.datetime]:
@@ -248,6 +255,11 @@ class LetterCase:
         """
         return next(filter(None, (rule(self) for rule in RULES)), None)
 
+    @property
+    def is_passed_over(self) -> bool:
+        """Whether it neither counts nor waits: its elector voted on paper, or it is another's."""
+        return why_not_own_vote(self) is not None
+
     def can_hide(self, copy: "LetterCase") -> bool:
         """Whether it can hide a copy, also one that differs from it: it went in once, whatever was
         decided of it since, or breaks no rule. One that went in by hand, and arrived after the end,
@@ -375,6 +387,30 @@ def why_not_readable(case: LetterCase) -> ReasonWithValues | None:
     return Reason.AUTOMATIC() if case.is_automatic else case.read.body.trouble
 
 
+def why_not_own_vote(case: LetterCase) -> ReasonWithValues | None:
+    """In a vote with tellers: its elector has not voted on paper, since a slip can't be taken out
+    of the urn; and nobody else has sent what is sealed in it before: whoever copies a ballot would
+    learn from the lists whether that is there.
+    """
+    if not (block := case.read.block):
+        return None
+    if case.read.elector in case.circumstances.on_paper:
+        return Reason.ON_PAPER(elector=case.read.elector)
+    first = case.circumstances.first_blocks.get(block)
+    if first is None or first.elector == case.read.elector:
+        return None
+    arrived = case.read.arrived
+    is_later = arrived is None or (first.arrived, first.letter) < (arrived, case.number or NEXT)
+    return Reason.BLOCK_OF_OTHER(elector=case.read.elector) if is_later else None
+
+
+def why_not_sealed(case: LetterCase) -> ReasonWithValues | None:
+    """In a vote with tellers: the page has sealed it, so that nobody reads it."""
+    is_open = case.circumstances.has_tellers and not case.read.block
+    has_answer = case.read.text.ballots or case.read.text.has_more_answers
+    return Reason.NOT_SEALED() if is_open and has_answer else None
+
+
 def why_not_in_time(case: LetterCase) -> ReasonWithValues | None:
     """It arrived after the call, and not after the end or the first close; and if the box had it
     when it was asked before, that asking brought it. The device of its elector says the same time,
@@ -495,6 +531,9 @@ def are_alike(mark: str, other: str) -> bool:
 RULES = (
     # first: of a letter that programs read in several ways nothing else is certain
     why_not_readable,
+    # before all that would have it wait
+    why_not_own_vote,
+    why_not_sealed,
     # before what its sender could mend: nobody is asked to send anew what came too late
     why_not_in_time,
     # before the signature: whose ballot it is says with whose key it has to be signed

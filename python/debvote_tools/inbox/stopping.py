@@ -48,6 +48,8 @@ class Pending:
     after_end: int = 0
     before_call: int = 0
     other_votes: Sequence[str] = ()
+    # in a vote with tellers, in words, the clicks that count for nobody
+    passed_over: Sequence[str] = ()
 
     @property
     def count(self) -> int:
@@ -115,6 +117,7 @@ def cases_of(
 def pending_of(history: History, letters: Sequence["LetterCase"]) -> Pending:
     if not letters:
         return Pending()
+    from debvote_tools.inbox.reasons import for_secretary
     from debvote_tools.inbox.rules import LetterOutcome
 
     pending = [letter for letter in letters if letter.is_pending]
@@ -130,6 +133,11 @@ def pending_of(history: History, letters: Sequence["LetterCase"]) -> Pending:
         after_end,
         len(pending) - len(arrived_in_time) - after_end,
         [case.other_vote for case in letters if case.outcome is LetterOutcome.OTHER_VOTE],
+        [
+            f"Letter {case.number} is passed over: {for_secretary(case.reason)}."
+            for case in letters
+            if case.outcome is LetterOutcome.PASSED_OVER and case.reason
+        ],
     )
 
 

@@ -11,6 +11,7 @@ from typing import NamedTuple
 from debvote_tools.book import queries
 from debvote_tools.book.queries import Envelope
 from debvote_tools.call.box import without_links
+from debvote_tools.call.tellers import ON_PAPER, PAPER
 from debvote_tools.cli.console import (
     LEAVING_OUT,
     count_of,
@@ -41,6 +42,14 @@ NO_FORM = Finding(
     "bad shape",
     "a ballot is a name, and for each question that is answered its label and its ranks",
 )
+
+# what is said in a vote with tellers of a line that nobody types: the page alone sends others
+NO_CHECK_OFF = Finding(
+    0,
+    "bad shape",
+    f"ballots are sealed by the page alone; of who votes on paper the line is NAME {PAPER}, and the slip goes into the urn",
+)
+PAPER_AT_END = re.compile(rb"[\s:]+paper[.!]?\s*$", re.IGNORECASE)
 
 # the same where one of them is answered without its label
 WITHOUT_LABEL = "a ballot here is a name and its ranks, without a label"
@@ -81,9 +90,10 @@ class CheckedLine(NamedTuple):
     @property
     def can_be_entered(self) -> bool:
         """As a ballot or as refused. Of several answers a line can't that has not their form, or
-        has the name of several electors.
+        has the name of several electors; with tellers one that has ranks, which the book would
+        have beside the name.
         """
-        return self.finding is not NO_FORM
+        return self.finding not in (NO_FORM, NO_CHECK_OFF)
 
     @property
     def why_refused(self) -> str | None:
@@ -124,6 +134,7 @@ class Vote:
         # the roll has codes: none is printed that was not typed
         self.has_codes = history.has_codes_on_roll
         self.is_signed = bool(history.announced("signed"))
+        self.has_tellers = bool(history.tellers)
         # what debvote has said of lines
         self.known = dict[bytes, Mapping[str, Finding]]()
         # most ballots have one of a few orders
@@ -141,12 +152,21 @@ class Vote:
         electors = () if self.has_codes else queries.electors(self.book)
         return names_of(self.questions, electors, self.election.language)
 
+    def with_paper(self, line: Line) -> Line:
+        """A line with the ranks of the check-off in place of the word for paper."""
+        if not self.has_tellers:
+            return line
+        ranks = f" {ON_PAPER}".encode()
+        repaired = PAPER_AT_END.sub(ranks, line.repaired)
+        return line._replace(repaired=repaired, named=PAPER_AT_END.sub(ranks, line.named))
+
     def as_meant(self, line: Line) -> tuple[bytes, list[str]]:
         """A line as it was repaired, with the name on the roll of the elector who is meant by its
         name, and with ranks in place of words; and those who may be meant, if they are several.
         """
         names = self.names
         labels = names.labels
+        line = self.with_paper(line)
         # of several answers each is repaired by itself: the first label may be part of the name
         given = line.unframed if labels else line.named
         text = names.with_ranks(given.decode("utf-8", "surrogateescape"))
@@ -180,6 +200,8 @@ class Vote:
             return line.why_unclear
         is_none = f"`{shown_line(line.original.repaired)}` is no ballot"
         hint = NO_FORM.hint if self.poll is None else WITHOUT_LABEL
+        if self.has_tellers:
+            is_none, hint = "this is no line of this vote", NO_CHECK_OFF.hint
         return line.why_unclear or self.why_too_long(line.original) or f"{is_none}: {hint}"
 
     def electors_of(self, lines: Sequence[bytes]) -> list[int | None]:
@@ -216,6 +238,9 @@ class Vote:
         never entered.
         """
         why = f"it has the name of {ENGLISH.joined(list(unclear))}" if unclear else ""
+        if self.has_tellers and not is_check_off(meant):
+            yield CheckedLine(line, meant, line.unframed, NO_CHECK_OFF, NO_CHECK_OFF)
+            return
         # as it came, such a line is no ballot
         findings = refused[line.unframed if why else meant]
         if why and self.names.labels:
@@ -226,14 +251,22 @@ class Vote:
             as_it_came = refused[line.unframed].get("", of_meant)
             yield CheckedLine(line, meant, line.unframed, as_it_came, of_meant, why)
         else:
-            name, _, answers = meant.decode("ascii").partition(" ")
-            by_finding = grouped(
-                (findings.get(label), (label, ranks))
-                for label, ranks in ranks_by_label(answers).items()
-            )
-            for finding in sorted(by_finding, key=lambda finding: finding is not None):
-                text = line_of(name, dict(by_finding[finding])).encode()
-                yield CheckedLine(line, meant, text, finding, finding)
+            yield from self.parts(line, meant, findings)
+
+    def parts(
+        self, line: Line, meant: bytes, findings: Mapping[str, Finding]
+    ) -> Iterator[CheckedLine]:
+        """Of a line with several answers the valid ones, and those that are refused for one
+        reason.
+        """
+        name, _, answers = meant.decode("ascii").partition(" ")
+        by_finding = grouped(
+            (findings.get(label), (label, ranks))
+            for label, ranks in ranks_by_label(answers).items()
+        )
+        for finding in sorted(by_finding, key=lambda finding: finding is not None):
+            text = line_of(name, dict(by_finding[finding])).encode()
+            yield CheckedLine(line, meant, text, finding, finding)
 
     def why_each_refused(self, lines: Sequence[bytes]) -> dict[bytes, str | None]:
         """What debvote says of each line, such as `bad rank count: ..`; None for a valid ballot.
@@ -404,12 +437,16 @@ class Vote:
     @property
     def right_line(self) -> str:
         name = "CODE" if self.has_codes else "NAME" if hides() else self.questions.roll[0]
+        if self.has_tellers:
+            return f"{name} {PAPER}"
         right = self.questions.line(name, turned_rank)
         part = part_of(right.encode(), self.label)
         return right if part is None else part.decode()
 
     def right_words(self) -> str:
         """A ballot line with what each rank is of, as `explain` has it."""
+        if self.has_tellers:
+            return f"Type `{self.right_line}` for each who votes on paper; the page alone seals ballots."
         polls = {"": self.poll} if self.poll else self.questions
         options = "; ".join(
             f"{label} {numbered(poll.names)}".strip() for label, poll in polls.items()
@@ -417,6 +454,11 @@ class Vote:
         ranks_of = f"the ranks of {cut(options, MOST_OF_OPTIONS)}; 1 is the best"
         words = f"A ballot line of this poll: `{self.right_line}`: {ranks_of}"
         return words if self.poll else f"{words}; a question may be left out"
+
+
+def is_check_off(line: bytes) -> bool:
+    """Whether a line says that its elector voted on paper, and nothing else."""
+    return line == b"%b %b" % (name_in(line), ON_PAPER.encode())
 
 
 def numbered(names: Iterable[str]) -> str:

@@ -25,6 +25,7 @@ from debvote_tools.election import (
     POLLS,
     RESULT,
     RESULT_LETTER,
+    URN,
     Election,
     History,
 )
@@ -81,6 +82,8 @@ class Step(enum.Enum):
     # until a time nothing but ballots
     WAIT = "wait"
     CLOSE = "close"
+    # the list of this number is opened by the teller of this name (that is the kind)
+    OPENING = "opening"
     COUNT = "count"
     PUBLISH = "publish"
     # the result that was published last has ties at these questions, with the options left
@@ -239,6 +242,10 @@ def upload(now: Now) -> Iterator[Due]:
         if done < history.publications[-1].number:
             yield Due(Step.UPLOAD, kind=RESULT)
         return
+    if history.tellers and history.is_closed:
+        if done < history.since_call("close", "handed on")[-1].number:
+            yield Due(Step.UPLOAD, len(history.handed_on), URN)
+        return
     if now.is_over or not history.announced("at"):
         return
     if not history.announced("box"):
@@ -348,6 +355,10 @@ def ending(now: Now) -> Iterator[Due]:
         is_to_come = history.ends_after(now.time) and not history.closes
         yield Due(Step.WAIT, time=history.until) if is_to_come else Due(Step.CLOSE)
         return
+    lists = len(history.handed_on)
+    if lists < len(history.tellers):
+        yield Due(Step.OPENING, lists, [*history.tellers][lists])
+        return
     if not history.publications:
         yield from (Due(Step.COUNT), Due(Step.PUBLISH))
         return
@@ -401,6 +412,8 @@ def in_words(election: Election, due: Due) -> str:
     if due.step in IN_WORDS:
         return IN_WORDS[due.step](election, due)
     places = {
+        "kind": due.kind,
+        "number": str(due.number),
         "waiting": count_of(due.number, "letter waits", "letters wait"),
         "electors": count_of(due.number, "elector"),
         "time": times.time_in_words(due.time) if due.time else "",
@@ -472,6 +485,9 @@ def upload_words(election: Election, due: Due) -> str:
     if due.kind == SCRIPT:
         script = election.path(CALL) / SCRIPT
         return f"upload {script} again, since electors have new links; then {ask}"
+    if due.kind == URN:
+        list_now = election.path(URN) / f"list-{due.number}.txt"
+        return f"put {list_now} on the web site beside the page of the call, then {said(election, Step.UPLOAD)}"
     if due.kind == RESULT:
         place = published_place(election, history) or "of the result"
         return (
@@ -606,6 +622,7 @@ PLAIN = {
     Step.NOT_REACHED: "the call has not reached {electors}, whom status names: tell them otherwise, then {status --done reached}; or correct members.csv, and run {roll}",
     Step.BACKUP: "copy the book to another disk: {backup FILE}",
     Step.WAIT: "until {time} ballots come: {add FILE}, or {desk}",
+    Step.OPENING: "{kind} opens list-{number}.txt in the hall, or once it was there for a day; then {tellers LIST}",
     Step.COUNT: "{count}",
     Step.NOTHING: "nothing is left; if somebody asks about a ballot, {show NAME} says what came",
 }

@@ -11,8 +11,8 @@ from collections.abc import Collection, Iterator, Sequence
 from typing import NamedTuple
 
 from debvote_tools.book.queries import Elector
-from debvote_tools.call.call import PACKAGE as CALL_PACKAGE
 from debvote_tools.call.call import CallData
+from debvote_tools.call.form import PACKAGE as CALL_PACKAGE
 from debvote_tools.inbox.fates import COUNTS, REFUSED, TAKEN_BACK, Fate
 from debvote_tools.inbox.reasons import ReasonWithValues, for_elector
 from debvote_tools.inbox.rules import LetterCase, LetterOutcome
@@ -63,6 +63,9 @@ AT_THE_END: dict[str | LetterOutcome, str] = marked(
         TAKEN_BACK: "Your ballot of {time} was entered, and the secretary has taken it back. It does not count.",
     }
 )
+# in a vote with tellers, of a ballot that counts
+OF_CLICK = marked("Your ballot, sent {time}, counts as sealed.")
+ON_PAPER = marked("You voted on paper; clicks do not count.")
 NOT_ALL = marked(
     "These of its answers do not count; others of yours, which were entered after them, count instead: {questions}."
 )
@@ -102,6 +105,10 @@ OF_RECORD = marked(
         ),
     }
 )
+
+
+# the letters that nobody looks at any more, and from which nothing was entered
+DONE = (LetterOutcome.SET_ASIDE, LetterOutcome.OLDER, LetterOutcome.PASSED_OVER)
 
 
 class OutgoingText(NamedTuple):
@@ -221,11 +228,13 @@ class Composer:
         letter = fate.letter
         if letter is None:
             sentence = (OF_BALLOT | AT_THE_END if self.is_over else OF_BALLOT)[fate.became]
+            if self.call_data.tellers and fate.became == COUNTS:
+                sentence = OF_CLICK if fate.came_by and fate.came_by.read.block else ON_PAPER
         # what is told of a letter is told to those of whom nothing was entered
         elif letter.not_taken_back and (fate.is_own or fate.became is LetterOutcome.ENTERED):
             sentence = OF_OTHERS[letter.is_pending]
         else:
-            is_done = fate.became in (LetterOutcome.SET_ASIDE, LetterOutcome.OLDER)
+            is_done = fate.became in DONE
             sentence = (OF_RECORD if letter.read.link else OF_LETTER)[fate.is_own][is_done]
         # the web host has another time, and can't change this one
         came = letter or fate.came_by

@@ -8,6 +8,7 @@ from collections.abc import Sequence
 from typing import Any
 
 from debvote_tools.call.secret import ON_PUBLIC_ROLL
+from debvote_tools.call.tellers import places_for
 from debvote_tools.cli import console
 from debvote_tools.cli.arguments import Options, add_arguments, add_version, option, positional
 from debvote_tools.cli.faults import Fault, Status, not_installed, other_format
@@ -90,7 +91,8 @@ def facts_of(arguments: Arguments, program_folder: pathlib.Path) -> QuestionFact
     ballots = input_in(arguments.ballots, BALLOTS_LIMIT, "ballots", Status.BAD_BALLOTS)
     demand_in_order(poll_bytes, arguments, Debvote(pathlib.Path(), program_folder))
     poll = sealed_of(poll_bytes, arguments.poll)
-    if poll.secret and not all(map(ON_PUBLIC_ROLL.fullmatch, poll.roll)):
+    are_places = poll.roll == places_for(len(poll.roll))
+    if poll.secret and not (are_places or all(map(ON_PUBLIC_ROLL.fullmatch, poll.roll))):
         cure = "publish it from its election, with debvote-election publish"
         words = "the vote is secret, and this would publish each name with its vote"
         raise Fault(arguments.poll, words, cure, done=None)

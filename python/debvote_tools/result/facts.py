@@ -10,6 +10,7 @@ from collections.abc import Callable, Collection, Iterator, Mapping, Sequence
 from typing import Any, NamedTuple
 
 from debvote_tools.debvote import Finding, casting_words, standing_in
+from debvote_tools.call.tellers import places_for
 from debvote_tools.poll.questions import Questions
 from debvote_tools.poll.sealed import SealedPoll
 from debvote_tools.result.casting import Castings
@@ -129,6 +130,12 @@ class VoteFacts(NamedTuple):
     codes: Collection[str] = ()
     # whether the names on the roll are codes, and nobody has a list of them
     has_codes: bool = False
+    # with tellers: the numbers of the ballots by their places on the roll, the lists and the
+    # programs that check them, by their files, and how many each teller refused
+    numbers: Mapping[str, str] = {}
+    lists: Mapping[str, bytes] = {}
+    programs: Mapping[str, bytes] = {}
+    refused_by: Mapping[str, int] = {}
     # the web address of the result, if it is known
     at: str | None = None
 
@@ -139,7 +146,13 @@ class VoteFacts(NamedTuple):
 
     @property
     def has_aliases(self) -> bool:
-        return self.questions.is_secret and not self.has_codes
+        return self.questions.is_secret and not (self.has_codes or self.has_tellers)
+
+    @property
+    def has_tellers(self) -> bool:
+        """Whether tellers have opened the ballots: then the roll has places, and no names."""
+        roll = self.questions.roll
+        return self.questions.is_secret and roll == places_for(len(roll))
 
     def acts_about(self, labels: Collection[str]) -> list[Act]:
         """What was done, as it is told of some questions."""

@@ -24,6 +24,8 @@ function joined(texts, and) {
 }
 
 (() => {
+  // with tellers electors look for their number themselves
+  if (document.getElementById("Find") === null) return;
   const DIGITS = 32;
   // among more electors no name is suggested, since it would take seconds
   const SUGGESTED_LIMIT = 20_000;

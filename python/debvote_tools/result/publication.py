@@ -4,7 +4,9 @@ What the book has of the questions `close`, `count` and `publish` read in one wa
 with what debvote says of each line (`kept_of`).
 """
 
+import datetime
 import itertools
+import urllib.parse
 from collections.abc import Collection, Iterable, Iterator, Mapping
 from typing import Any, NamedTuple
 
@@ -12,10 +14,20 @@ from debvote_tools.book import queries
 from debvote_tools.book.book import RESTORED, Book, DoneAct, as_text, from_text
 from debvote_tools.call.call import current_call
 from debvote_tools.call.secret import alias_in, aliased_ballots, sealed_checksum
+from debvote_tools.call.tellers import (
+    LIST_0,
+    VOTED,
+    are_all_opened,
+    kept_lists,
+    last_ballots,
+    program_files,
+    tellers_file,
+    voted_file,
+)
 from debvote_tools.cli.console import demand_yes, in_runs, tell_aside
 from debvote_tools.cli.faults import Fault
 from debvote_tools.debvote import casting_words
-from debvote_tools.election import Election, History, fixed_by
+from debvote_tools.election import TELLERS, Election, Fixed, History, fixed_by
 from debvote_tools.files import sha256_of
 from debvote_tools.grouping import grouped
 from debvote_tools.inbox.asked import is_unasked_since_end, other_pages, with_lost_records
@@ -63,6 +75,9 @@ def demand_countable(election: Election, history: History) -> None:
     if election.questions.is_secret and not history.is_closed:
         words = "the vote is secret, and can be counted only after the close"
         raise Fault(None, words, f"close it first: {election.command('close')}")
+    if not are_all_opened(history):
+        words = "the tellers have not opened all layers yet"
+        raise Fault(None, words, f"enter what they hand on: {election.command('tellers', 'LIST')}")
 
 
 def kept_of(election: Election, history: History, labels: Iterable[str]) -> dict[str, Kept]:
@@ -77,18 +92,50 @@ def kept_of(election: Election, history: History, labels: Iterable[str]) -> dict
         for label in labels:
             with book.question(label):
                 by_label[label] = kept_of_question(book, label, election.questions[label])
-    if history.is_closed:
-        for label, kept in by_label.items():
-            fixed = fixed_by(history.closes[-1])[label]
-            checksum = sealed_checksum(fixed.seal, kept.public)
-            if checksum != fixed.checksum:
-                words = f"the ballots have the checksum {checksum}, and the close recorded {fixed.checksum}"
-                raise Fault(None, words, KEEP)
+    if history.is_closed and history.tellers:
+        by_label[""] = sealed_to_tellers(book, history, by_label[""])
+    for label, kept in by_label.items() if history.is_closed else ():
+        demand_fixed(fixed_by(history.closes[-1])[label], kept)
     for kept in by_label.values():
         findings = election.debvote.findings(kept.poll.as_bytes(), kept.ballots)
         verdicts = {finding.line: finding.word for finding in findings.refused}
         demand_kept(election, (verdicts, findings.voters), (kept.refused, len(kept.counting)))
     return by_label
+
+
+def demand_fixed(fixed: Fixed, kept: Kept) -> None:
+    """Stops at ballots that are not those of the close."""
+    checksum = sealed_checksum(fixed.seal, kept.public)
+    if checksum != fixed.checksum:
+        words = f"the ballots have the checksum {checksum}, and the close recorded {fixed.checksum}"
+        raise Fault(None, words, KEEP)
+
+
+def sealed_to_tellers(book: Book, history: History, kept: Kept) -> Kept:
+    """The same, with the list of the close in place of ballots. Stops if those who are checked off
+    are others than the close kept.
+    """
+    close = history.closes[-1].number
+    if voted_file(kept.counting) != queries.sealed(book, VOTED, close):
+        raise Fault(book.path, f"those who voted are not those of {VOTED}", KEEP)
+    return kept._replace(public=queries.sealed(book, LIST_0, close))
+
+
+def decided_of(election: Election, history: History, labels: Iterable[str]) -> dict[str, Kept]:
+    """What the book has of these questions as they are decided: with tellers the ballots that they
+    have opened, by the places of the public roll.
+    """
+    kept = kept_of(election, history, labels)
+    if not history.tellers:
+        return kept
+    poll = election.decided[""]
+    ballots = last_ballots(election.book, history, poll.roll)
+    counting = {place: ranks for place, (_, ranks) in ballots.items()}
+    lines = "".join(f"{place} {ranks}\n" for place, ranks in counting.items()).encode()
+    as_decided = kept[""]._replace(
+        poll=poll, ballots=lines, public=lines, lines=len(counting), refused={}, counting=counting
+    )
+    return {"": as_decided}
 
 
 def kept_of_question(book: Book, label: str, poll: SealedPoll) -> Kept:
@@ -162,16 +209,33 @@ def vote_facts(
         real_names=call.real_names or {},
         doubts=[*doubts_of(election, history, words.castings, pending)],
         codes={elector.code for elector in queries.electors(book) if is_secret and elector.code},
+        **facts_of_tellers(election, history),
         has_codes=call.has_codes_on_roll,
         at=call.at,
     )
+
+
+def facts_of_tellers(election: Election, history: History) -> dict[str, Any]:
+    """The facts of a vote in which tellers have opened the ballots."""
+    if not (tellers := history.tellers):
+        return {}
+    book = election.book
+    lists = {f"list-{step}.txt": data for step, data in enumerate(kept_lists(book, history))}
+    ballots = last_ballots(book, history, election.decided.roll)
+    refused = [act.detail["refused"] for act in history.handed_on]
+    return {
+        "numbers": {place: number for place, (number, _) in ballots.items()},
+        "lists": {**lists, TELLERS: tellers_file(tellers)},
+        "programs": program_files(),
+        "refused_by": dict(zip(tellers, refused)),
+    }
 
 
 def question_facts(election: Election, vote: VoteFacts) -> list[QuestionFacts]:
     """The facts of each question. Stops if debvote does not find the ballots as they are kept."""
     history = election.history()
     questions = list[QuestionFacts]()
-    for label, kept in kept_of(election, history, election.questions).items():
+    for label, kept in decided_of(election, history, election.questions).items():
         standing = election.debvote.standing(kept.poll.as_bytes(), kept.ballots)
         demand_kept(election, standing, kept.counting)
         facts = QuestionFacts(vote, label, kept.public, len(kept.late), kept.late)
@@ -179,6 +243,10 @@ def question_facts(election: Election, vote: VoteFacts) -> list[QuestionFacts]:
             facts = facts._replace(
                 late=None,
                 seal=fixed_by(history.closes[-1])[label].seal,
+            )
+        # what tellers have opened has no other sheet, and no other publication
+        if vote.questions.is_secret and not history.tellers:
+            facts = facts._replace(
                 private=sheet_of(election, kept, facts.casting),
                 compared=shown_by_comparison(election, history, label, kept),
             )
@@ -212,8 +280,18 @@ def closing_letter(election: Election, history: History) -> bytes:
         closes=[(act.time.astimezone(history.zone), fixed_by(act)) for act in history.closes],
         until=history.until,
         early=early_close(history),
+        tellers=history.tellers,
+        opened=address_and_time(election, history),
+        void=[fixed_by(act)[""].checksum for act in history.closes[:-1] if history.tellers],
         reasons=[] if questions.is_secret else reasons,
     ).encode()
+
+
+def address_and_time(election: Election, history: History) -> dict[str, str]:
+    """With tellers where list 0 lies, and when it is opened by mail: after a day to see it."""
+    day = history.closes[-1].time.astimezone(history.zone) + datetime.timedelta(days=1)
+    address = urllib.parse.urljoin(history.announced("at") or "", "list-0.txt")
+    return {"address": address, "time": time_in_words(day, election.language)}
 
 
 def shown_by_comparison(election: Election, history: History, label: str, kept: Kept) -> list[str]:
@@ -274,7 +352,7 @@ def other_castings(election: Election, history: History, castings: Castings) -> 
     """The doubts about earlier publications whose casting vote is for another option."""
     last = history.last_publication
     all_castings = {**(last.detail["casting"] if last else {}), **castings}
-    for label, poll in election.questions.items():
+    for label, poll in election.decided.items():
         casting = castings.get(label)
         # without one: since the last close, after which it was the same tie
         acts = history.publications if casting is None else history.named("publish")

@@ -13,7 +13,7 @@ import hashlib
 import pathlib
 import re
 import textwrap
-from collections.abc import Callable
+from collections.abc import Callable, Iterable
 
 import jinja2
 from markupsafe import Markup
@@ -137,22 +137,36 @@ def render_page(
     *,
     style: str,
     script: str = "",
+    line: str = "",
     sends: bool = False,
+    is_plain: bool = False,
     **values: object,
 ) -> bytes:
-    """A page. It loads nothing, and runs its own script alone, which its policy names by checksum.
-    One that `sends` does so to its own host alone.
+    """A page; one that `is_plain` has its own style alone. It loads nothing, and runs its own
+    script alone, and a line before it if it has one, which its policy names by checksum. One that
+    `sends` does so to its own host alone.
     """
-    style = resources("debvote_tools", "page.css") + style
-    if language != ENGLISH:
-        # words may be longer than a narrow window
-        style += resources("debvote_tools", "long_words.css")
-    scripts = f"script-src {checksum_source(script)}; " if script else ""
-    connects = "connect-src 'self'; " if sends else ""
-    policy = f"default-src 'none'; {scripts}style-src {checksum_source(style)}; {connects}base-uri 'none'; form-action 'none'"
-    made = {"style": Markup(style), "script": Markup(script), "policy": Markup(policy)}
+    style = style if is_plain else style_of(style, language)
+    scripts = [text for text in (line, script) if text]
+    policy = policy_of(checksum_source(style), map(checksum_source, scripts), sends=sends)
+    made = {"style": Markup(style), "scripts": [*map(Markup, scripts)], "policy": Markup(policy)}
     page = templates_of(package, language, is_page=True).get_template(template)
     return page.render(values | made | {"language": language.code}).encode()
+
+
+def style_of(style: str, language: Language) -> str:
+    """The whole style of a page."""
+    style = resources("debvote_tools", "page.css") + style
+    # words may be longer than a narrow window
+    return style if language == ENGLISH else style + resources("debvote_tools", "long_words.css")
+
+
+def policy_of(style: str, scripts: Iterable[str], *, sends: bool) -> str:
+    """What a page may load and do, by the sources of its style and of its scripts."""
+    run = " ".join(scripts)
+    allowed = f"script-src {run}; " if run else ""
+    connects = "connect-src 'self'; " if sends else ""
+    return f"default-src 'none'; {allowed}style-src {style}; {connects}base-uri 'none'; form-action 'none'"
 
 
 def checksum_source(text: str) -> str:

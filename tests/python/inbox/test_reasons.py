@@ -108,4 +108,6 @@ class Sentences(unittest.TestCase):
         # and of records of the box (test_by_click.py)
         found |= {"other link", "fetched", "not there before", "clock at the end", "clocks"}
         found |= {"other time", "not sent later"}
+        # and of votes with tellers (test_tellers.py)
+        found |= {"not sealed", "on paper", "block of other"}
         self.assertEqual({label(reason()) for reason in Reason} - found, set())

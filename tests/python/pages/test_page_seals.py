@@ -95,7 +95,11 @@ def sent_under_node(line: str, place: str, options: int, presses: int = 1) -> by
     data = {"box": "vote.php", "until": "", "words": json.dumps(WORDS), **OF_VECTOR}
     given = {"place": json.dumps(place), "line": json.dumps(line), "data": json.dumps(data)}
     around = AROUND % (given | {"options": options})
-    script = around + fixed() * (presses == 1) + resources("debvote_tools.call", "box.js")
+    script = (
+        around
+        + fixed() * (presses == 1)
+        + resources("debvote_tools.call", "bytes.js", "sealing.js", "box.js")
+    )
     script += f"(async () => {{ for (let n = 0; n < {presses}; n += 1) await pressed[0](); }})();"
     ended = subprocess.run([str(NODE), "-"], input=script.encode(), capture_output=True, timeout=60)
     assert (ended.returncode, ended.stderr) == (0, b""), ended

@@ -1,0 +1,147 @@
+"""What the page of a vote with tellers seals, byte for byte, under node, which has no page."""
+
+import base64
+import json
+import re
+import subprocess
+import unittest
+import urllib.parse
+
+from debvote_tools.call.box import page_of
+from debvote_tools.call.tellers import script_line
+from debvote_tools.text.rendering import resources
+
+from tests.python.call.test_tellers import FILES, KEY, MARK, OWN, POINTS
+from tests.python.pages.test_page_seals import NODE
+from tests.support import sealing
+from tests.support.web_host import request_of
+
+PLACE = "ada/23456789ab/3raku42w9zgfv5av"
+TIME = "2026-12-01T12:00:00.000Z"
+NUMBER = f"{1:032x}"
+WORDS = {"sealed_to": "{name} {fingerprint}", "number": "{number}", "perhaps": "? {number}"}
+STATES = ["sending", "received", "late", "changed", "unsure", "over", "lost", "unsealed"]
+
+# what the scripts find of a page and a browser; the own keys are those of the vectors, in their order
+AROUND = """
+const nodes = new Map(), pressed = [], kept = [];
+const made = (id) => ({ id, append: (node) => kept.push(node.textContent), addEventListener: (_, call) => pressed.push(call) });
+const node = (id) => nodes.get(id) ?? nodes.set(id, made(id)).get(id);
+const document = { getElementById: node, createElement: made, documentElement: { lang: "en" } };
+const location = { protocol: "https:" }, isSecureContext = true, navigator = {};
+const placeNamed = () => PLACE, addEventListener = () => {};
+const MutationObserver = class { observe() {} };
+const bodies = [];
+const fetch = async (_, { body }) => { bodies.push(body); return { status: 200, text: async () => "received 2026-12-01T12:00:01Z" }; };
+node("Line").textContent = LINE;
+node("Ballot").dataset = DATA;
+node("Ballot").querySelectorAll = (which) => Array(which.includes(".option") ? OPTIONS : 0).fill({});
+const how = { name: "ECDH", namedCurve: "P-256" };
+crypto.subtle.generateKey = async (_, isTold) => {
+  const own = OWNS.shift() ?? OWNS_LAST;
+  return {
+    publicKey: await crypto.subtle.importKey("jwk", { ...own, d: undefined }, how, true, []),
+    privateKey: await crypto.subtle.importKey("jwk", own, how, isTold, ["deriveBits"]),
+  };
+};
+crypto.getRandomValues = (bytes) => bytes.map((byte, place) => (bytes[place] = bytes.length === 16 ? Number(place === 15) : 10));
+Date.prototype.toISOString = () => TIME;
+"""
+
+
+def own_key(number: int) -> dict[str, str]:
+    point = sealing.point_of(number)
+    parts = {"x": point[1:33], "y": point[33:], "d": number.to_bytes(32)}
+    coded = {
+        name: base64.urlsafe_b64encode(part).decode().rstrip("=") for name, part in parts.items()
+    }
+    return {"kty": "EC", "crv": "P-256"} | coded
+
+
+def sealed_under_node(
+    line: str, tellers: str, options: int = 4, owns: tuple[int, ...] = (3, 4, 2)
+) -> dict[str, object]:
+    """What the page sends of a line, and shows of it."""
+    words = WORDS | dict.fromkeys(STATES, "")
+    data = {
+        "box": "vote.php",
+        "until": "",
+        "words": json.dumps(words),
+        "mark": MARK,
+        "page": page_of(KEY, MARK),
+        "seal": sealing.key_pair(KEY, MARK)[0],
+    }
+    values = {
+        "PLACE": PLACE,
+        "LINE": line,
+        "DATA": data,
+        "OPTIONS": options,
+        "OWNS": [own_key(number) for number in owns],
+        "OWNS_LAST": own_key(owns[-1]),
+        "TIME": TIME,
+    }
+    constants = "".join(f"const {name} = {json.dumps(value)};\n" for name, value in values.items())
+    scripts = resources("debvote_tools.call", "bytes.js", "sealing.js", "layers.js", "box.js")
+    end = """(async () => {
+      await pressed[0]();
+      console.log(JSON.stringify({ bodies, kept, number: node("Number").textContent, href: node("File").href, hidden: node("Numbered").hidden }));
+    })();"""
+    ended = subprocess.run(
+        [str(NODE), "-"],
+        input=f"{constants}{AROUND}{tellers}\n{scripts}{end}".encode(),
+        capture_output=True,
+        timeout=120,
+    )
+    assert (ended.returncode, ended.stderr) == (0, b""), ended
+    found: dict[str, object] = json.loads(ended.stdout)
+    return found
+
+
+@unittest.skipUnless(NODE, "nodejs is not installed")
+class Layers(unittest.TestCase):
+    def test_the_vectors(self):
+        # ranks that are no normal form say the same order
+        for ranks in ("2,1,3,-", "12,7,32,-"):
+            found = sealed_under_node(f"ada {ranks}", script_line(POINTS))
+            head = f"box={page_of(KEY, MARK)} {sealing.proof_of(MARK, PLACE)} {NUMBER}"
+            body = request_of(head, FILES["record"].strip()).decode()
+            self.assertEqual(found["bodies"], [body])
+            self.assertEqual((found["number"], found["hidden"]), ("cccccccc", False))
+            file = urllib.parse.unquote(str(found["href"]).partition(",")[2])
+            self.assertEqual(file, OWN)
+            self.assertEqual(
+                found["kept"], ["carla bf6e-3480-d3f0-5753", "dora e843-5051-d2bd-ab7e"]
+            )
+
+    def test_all_numbers_of_options_and_tellers_have_one_length(self):
+        from tests.support import tellers
+
+        for count in (2, 3):
+            line = script_line(tellers.points(count))
+            for options in (2, 33):
+                lengths = set[int]()
+                for rank in ("-", "32"):
+                    text = f"ada {','.join([rank] * (options - 1) + ['1'])}"
+                    found = sealed_under_node(text, line, options, (3, 4, 5, 2)[4 - count - 2 :])
+                    [body] = found["bodies"]  # type: ignore[misc]
+                    self.assertNotIn("=", str(body).partition("\n")[2])
+                    lengths.add(len(str(body)))
+                self.assertEqual(len(lengths), 1, (count, options))
+
+    def test_by_another_line_nothing_is_sealed(self):
+        line = script_line(POINTS)
+        names = re.findall(r"[a-z]+ [\w-]{87}", line)
+        for other in (
+            "",
+            f'const TELLERS = "{names[0]}";',
+            f'const TELLERS = "{" ".join([*names, *names])}";',
+            line.replace("carla ", "Carla "),
+            line.replace('";', ' ";'),
+            line.replace("carla B", "carla A"),
+        ):
+            found = sealed_under_node("ada 2,1,3,-", other)
+            self.assertEqual(found["bodies"], [], other)
+
+
+if __name__ == "__main__":
+    unittest.main()
