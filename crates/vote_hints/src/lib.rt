@@ -24,7 +24,7 @@ pub use characters::push_character;
 pub use commands::push_mending;
 pub use excerpts::push_excerpt;
 pub use file_kinds::{file_kind, unmarked};
-pub use near::nearest_names;
+pub use near::{are_within, nearest_names};
 use std::alloc::AllocError;
 use vote_poll_text::push_shown;
 
