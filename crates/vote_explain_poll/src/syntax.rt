@@ -115,7 +115,7 @@ fn push_both_places(words: &mut String, before: &[u8], right: &[u8]) -> Result<(
 /// Adds what the format has in place of what `right` begins with, in a file in which this stands before: a comment of C, or JSON.
 fn push_other_format(words: &mut String, before: &[u8], right: &[u8]) -> Result<(), AllocError> {
     match right {
-        [b'/', b'/', ..] => words.push_str("; a comment begins with #"),
+        [b'/', b'/' | b'*', ..] => words.push_str("; a comment begins with #"),
         [b'{', ..] if before.trim_ascii().is_empty() => words.push_str(
             "; { begins JSON: a line of TOML is a key, = and its value",
         ),

@@ -365,7 +365,9 @@ def faults_of_lines(vote: Vote, new: NewLines, arguments: Arguments) -> Iterator
     with_new_lines = [file for file in new.files if file.new]
     for file in with_new_lines:
         if file.is_table:
-            yield Fault(file.name, TABLE, f"{vote.cure_by_reason('the file', file.lines)}, or {FORCE}")
+            yield Fault(
+                file.name, TABLE, f"{vote.cure_by_reason('the file', file.lines)}, or {FORCE}"
+            )
     no_tables = [file for file in with_new_lines if not file.is_table]
     yield from under_other_names(vote, no_tables)
     yield from few_ballots(vote, no_tables)
