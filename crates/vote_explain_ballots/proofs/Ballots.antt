@@ -1,5 +1,5 @@
 -- A line that is not refused is a ballot, whose first word is an elector, so it is no head of a table.
-use Rattle.vote_explain_ballots.proofs.Words.{Bool, List, None, Option, Some, [], append_assoc, arith, codes, false, length, list_all, map, nat_tests, refl, sym, true, ℕ, ◌&&◌, ◌++◌, ◌∙◌, ◌∷◌, ◌≡◌, ap, All, All-weaker, common_steps}
+use Rattle.vote_explain_ballots.proofs.Words.{Bool, None, Option, Some, [], append_assoc, arith, false, length, list_all, map, nat_tests, refl, true, ℕ, ◌&&◌, ◌++◌, ◌∙◌, ◌∷◌, ◌≡◌, ap, All-weaker}
 use Rattle.vote_explain_ballots.proofs.Words.{PollContent, Reading, Text, is_ballot, is_head, is_voter_byte, last_in_time, reading, refusing_reply}
 use Rattle.std.specs.Char.{to_ascii_lowercase}
 use Rattle.std.proofs.lemmas.List.Splits.{slice_split_at}
