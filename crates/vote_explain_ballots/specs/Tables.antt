@@ -101,9 +101,9 @@ abbrev pub may_be_head : ℕ → Bool → Text → Bool
 may_be_head options is_below bytes =
     if is_of_ranks bytes then not is_below && has_each_rank options bytes else (not (is_below && options == 2) && (has_few_ranks bytes && has_heads options bytes))
 
--- how many edits at most make a word of another: with two most short words are near to each other
+-- how many edits at most make a name of another that may be meant: with two most short names are near to each other
 abbrev pub most_edits : Text → ℕ
-most_edits word = if nat_le (length word) SHORT_NAME then 1 else MAX_EDITS
+most_edits name = if nat_le (length name) SHORT_NAME then 1 else MAX_EDITS
 
 -- a name on the roll is so near to the word that it may be meant
 abbrev pub is_near_name : List Text → Text → Bool

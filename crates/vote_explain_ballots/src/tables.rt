@@ -5,13 +5,13 @@ ghost use Rattle.std.specs.Str.{byte};
 ghost use Rattle.vote_poll.specs.Readings.{readings};
 ghost use Rattle.vote_poll_text.specs.Adding.{Adds};
 ghost use Rattle.vote_steps.specs.HeldLines.{AreCastInOrder, HoldsLines};
-ghost use Rattle.vote_explain_ballots.specs.Tables.{cells_of, first_word, has_cells, has_columns, has_each_rank, has_even_ranks, has_few_ranks, has_head, has_heads, is_cell_sign, is_column_sign, is_even, is_head, is_head_sign, is_joining, is_near_name, is_of_cells, is_of_ranks, is_parted_by, is_quoted_rank, is_rank, is_row_of_heads, is_sign, later_cells, later_words, may_be_head, most_edits, names_nobody, number_of, parts_cells, rank_count, table_text, words_of};
+ghost use Rattle.vote_explain_ballots.specs.Tables.{cells_of, first_word, has_cells, has_columns, has_each_rank, has_even_ranks, has_few_ranks, has_head, has_heads, is_cell_sign, is_column_sign, is_even, is_head, is_head_sign, is_joining, is_near_name, is_of_cells, is_of_ranks, is_parted_by, is_quoted_rank, is_rank, is_row_of_heads, is_sign, later_cells, later_words, may_be_head, names_nobody, number_of, parts_cells, rank_count, table_text, words_of};
 
 use crate::explain::CastFile;
 use crate::findings::refusing_at;
-use crate::near_names::SHORT_NAME;
+use crate::near_names::most_edits;
 use std::alloc::{AllocError, Global};
-use vote_hints::{MAX_EDITS, are_within, unmarked};
+use vote_hints::{are_within, unmarked};
 use vote_poll::{Lines, MAX_OPTIONS, Poll, each_line_is_read};
 
 /// Whether a byte is a sign that parts columns.
@@ -211,17 +211,6 @@ fn may_be_head(options: usize, is_below: bool, line: &[u8], are_ranks: bool) -> 
         return !is_below && has_each_rank(options, line);
     }
     !(is_below & (options == 2)) && has_few_ranks(line) && has_heads(options, line)
-}
-
-/// How many edits at most make a word of another.
-fn most_edits(word: &[u8]) -> usize
-    ensures { result ≡ most_edits word.now }
-{
-    if word.len() <= SHORT_NAME {
-        1
-    } else {
-        MAX_EDITS
-    }
 }
 
 /// Whether a name on the roll is so near to a word that it may be meant.
