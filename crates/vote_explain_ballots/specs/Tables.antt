@@ -122,34 +122,18 @@ abbrev pub is_head : PollContent → Bool → Text → Bool
 is_head poll is_below bytes = may_be_head (option_count poll) is_below bytes && names_nobody poll bytes
 
 -- ---- lines of cells
--- a quotation mark or a stroke
-abbrev pub is_cell_sign : ℕ → Bool
-is_cell_sign b = b == 34 || b == byte "|"
-
--- what parts cells: what parts words, or a stroke
-abbrev pub parts_cells : ℕ → Bool
-parts_cells b = is_sign b || b == byte "|"
-
--- the cells of a line that are not empty
-abbrev pub cells_of : Text → List Text
-cells_of bytes = filter (λ cell. not (length cell == 0)) (slice_split parts_cells bytes)
-
--- those behind the first
-abbrev pub later_cells : Text → List Text
-later_cells bytes = drop 1 (cells_of bytes)
+abbrev pub is_quote : ℕ → Bool
+is_quote b = b == 34
 
 -- a rank in quotation marks
 abbrev pub is_quoted_rank : Text → Bool
-is_quoted_rank (a ∷ b ∷ c ∷ []) = a == 34 && (is_rank (b ∷ []) && c == 34)
-is_quoted_rank (a ∷ b ∷ c ∷ d ∷ []) = a == 34 && (is_rank (b ∷ c ∷ []) && d == 34)
+is_quoted_rank (a ∷ b ∷ c ∷ []) = is_quote a && (is_rank (b ∷ []) && is_quote c)
+is_quoted_rank (a ∷ b ∷ c ∷ d ∷ []) = is_quote a && (is_rank (b ∷ c ∷ []) && is_quote d)
 is_quoted_rank other = false
 
--- Behind the first cell two or more, each of which is a rank in quotation marks; or each a rank, with a stroke between any two words of
--- the line.
+-- behind the first word two ranks or more in quotation marks, and no other words
 abbrev pub is_of_cells : Text → Bool
-is_of_cells bytes =
-    list_any is_cell_sign bytes && (nat_lt 2 (length (cells_of bytes))
-    && (list_all is_quoted_rank (later_cells bytes) || (list_all is_rank (later_cells bytes) && is_parted_by bytes (byte "|"))))
+is_of_cells bytes = list_any is_quote bytes && (nat_lt 2 (length (words_of bytes)) && list_all is_quoted_rank (later_words bytes))
 
 -- two lines of cells or more
 abbrev pub has_cells : List Text → Bool

@@ -1,11 +1,10 @@
 //! What looks like a table, whose columns may stand in another order than the options.
-ghost use Rattle.std.specs.Prelude.{◌≡◌, ◌≤◌, ◌==◌, ◌&&◌, ◌||◌, not, [], IfOk, false, filter, length, nat_lt, option_map, unwrap_or};
+ghost use Rattle.std.specs.Prelude.{◌≡◌, ◌≤◌, ◌==◌, ◌&&◌, ◌||◌, not, [], IfOk, false, filter, length, option_map, unwrap_or};
 ghost use Rattle.std.specs.List.{list_all, list_any};
-ghost use Rattle.std.specs.Str.{byte};
 ghost use Rattle.vote_poll.specs.Readings.{readings};
 ghost use Rattle.vote_poll_text.specs.Adding.{Adds};
 ghost use Rattle.vote_steps.specs.HeldLines.{AreCastInOrder, HoldsLines};
-ghost use Rattle.vote_explain_ballots.specs.Tables.{cells_of, first_word, has_cells, has_columns, has_each_rank, has_even_ranks, has_few_ranks, has_head, has_heads, is_cell_sign, is_column_sign, is_even, is_head, is_head_sign, is_joining, is_near_name, is_of_cells, is_of_ranks, is_parted_by, is_quoted_rank, is_rank, is_row_of_heads, is_sign, later_cells, later_words, may_be_head, names_nobody, number_of, parts_cells, rank_count, table_text, words_of};
+ghost use Rattle.vote_explain_ballots.specs.Tables.{first_word, has_cells, has_columns, has_each_rank, has_even_ranks, has_few_ranks, has_head, has_heads, is_column_sign, is_even, is_head, is_head_sign, is_joining, is_near_name, is_of_cells, is_of_ranks, is_parted_by, is_quote, is_quoted_rank, is_rank, is_row_of_heads, is_sign, later_words, may_be_head, names_nobody, number_of, rank_count, table_text, words_of};
 
 use crate::explain::CastFile;
 use crate::findings::refusing_at;
@@ -303,59 +302,27 @@ fn has_even_ranks(lines: &Lines<'_>) -> bool
     2 <= number
 }
 
-/// Whether a quotation mark or a stroke is in a line.
-fn has_cell_sign(line: &[u8]) -> bool
-    ensures { result ≡ list_any is_cell_sign line.now }
+/// Whether a quotation mark is in a line: it is looked for first, since most lines have none.
+fn has_quote(line: &[u8]) -> bool
+    ensures { result ≡ list_any is_quote line.now }
 {
-    line.iter().any(|byte| matches!(*byte, b'"' | b'|'))
+    line.iter().any(|byte| *byte == b'"')
 }
 
-/// Whether a byte is what parts cells.
-fn parts_cells(byte: u8) -> bool
-    ensures { result ≡ parts_cells byte }
-{
-    is_sign(byte) || byte == b'|'
-}
-
-/// Whether a line has a third cell.
-fn has_third_cell(line: &[u8]) -> bool
-    ensures { result ≡ nat_lt 2 (length (cells_of line.now)) }
-{
-    let parts = line.split(|byte| parts_cells(*byte));
-    let cells = parts.filter(|cell| !cell.is_empty());
-    cells.count() > 2
-}
-
-/// Whether all cells behind the first of a line are ranks in quotation marks.
+/// Whether all words behind the first of a line are ranks in quotation marks.
 fn has_only_quoted(line: &[u8]) -> bool
-    ensures { result ≡ list_all is_quoted_rank (later_cells line.now) }
+    ensures { result ≡ list_all is_quoted_rank (later_words line.now) }
 {
-    let parts = line.split(|byte| parts_cells(*byte));
-    let cells = parts.filter(|cell| !cell.is_empty());
-    cells.skip(1).all(|cell| is_quoted_rank(cell))
+    let parts = line.split(|byte| is_sign(*byte));
+    let words = parts.filter(|word| !word.is_empty());
+    words.skip(1).all(|word| is_quoted_rank(word))
 }
 
-/// Whether all cells behind the first of a line are ranks.
-fn has_only_bare(line: &[u8]) -> bool
-    ensures { result ≡ list_all is_rank (later_cells line.now) }
-{
-    let parts = line.split(|byte| parts_cells(*byte));
-    let cells = parts.filter(|cell| !cell.is_empty());
-    cells.skip(1).all(|cell| is_rank(cell))
-}
-
-/// Whether the cells behind the first of a line are ranks in quotation marks, or ranks between strokes.
-fn has_ranks_in_cells(line: &[u8]) -> bool
-    ensures { result ≡ (list_all is_quoted_rank (later_cells line.now) || (list_all is_rank (later_cells line.now) && is_parted_by line.now (byte "|"))) }
-{
-    has_only_quoted(line) || has_only_bare(line) && is_parted_by(line, b'|')
-}
-
-/// Whether a line is of cells: two or more of them behind the first have ranks, and no other one is there.
+/// Whether a line has two ranks or more in quotation marks behind its first word, and no other words.
 fn is_of_cells(line: &[u8]) -> bool
     ensures { result ≡ is_of_cells line.now }
 {
-    has_cell_sign(line) && has_third_cell(line) && has_ranks_in_cells(line)
+    has_quote(line) && word_count(line) > 2 && has_only_quoted(line)
 }
 
 /// Whether two lines or more are of cells.

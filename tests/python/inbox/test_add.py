@@ -420,7 +420,6 @@ When/Who/Mail/Note/A/B/C/D
             "ada 1 2 3 4\nben 1 2 3 4\n",
             "ada;1;2\nben\t1\t2\n",
             '"ada","1","2","3","4"\n"ben","2","1","3","4"\n',
-            "ada|1|2|3|4\nben|1|2|3|4\n",
         ):
             self.stops(table, said, cure)
         # the first that is refused is named, with the reason
@@ -447,7 +446,7 @@ When/Who/Mail/Note/A/B/C/D
 
     def test_lines_of_a_table_and_semicolons_between_ranks(self):
         """Few are ballots if it has other signs, or words; only blanks at commas are repaired."""
-        for table in ("ada/1/2/3/4\nben/1/2/3/4\n", "ada;1;2;3;4\nben;1;2;3;x\n", "ada 1\nben 2\n"):
+        for table in ("ada|1|2|3|4\nben|1|2|3|4\n", "ada;1;2;3;4\nben;1;2;3;x\n", "ada 1\nben 2\n"):
             self.stops(table, "wrong: debvote takes none of the 2 lines as ballots")
         self.adds("ada 1,2,4,3\nben 1; 2 ;4; 3\ncleo 1, 2, 4, 3\ndan 1;2,4;3\n")
         lines = ["ada 1,2,4,3", "ben 1; 2 ;4; 3", "cleo 1,2,4,3", "dan 1;2,4;3"]
