@@ -10,7 +10,6 @@ use Rattle.vote_hints.specs.FileKinds.{unmarked}
 use Rattle.vote_hints.specs.Near.{edits_between}
 use Rattle.vote_hints.specs.declared.TheConstants.{MAX_EDITS}
 use Rattle.vote_poll_text.specs.Texts.{Text, line}
-use Rattle.vote_explain_ballots.specs.declared.near_names.TheConstants.{SHORT_NAME}
 
 -- a comma, a semicolon or a tab
 abbrev pub is_column_sign : ℕ → Bool
@@ -103,7 +102,7 @@ may_be_head options is_below bytes =
 
 -- how many edits at most make a name of another that may be meant: with two most short names are near to each other
 abbrev pub most_edits : Text → ℕ
-most_edits name = if nat_le (length name) SHORT_NAME then 1 else MAX_EDITS
+most_edits name = if nat_le (length name) 3 then 1 else MAX_EDITS
 
 -- a name on the roll is so near to the word that it may be meant
 abbrev pub is_near_name : List Text → Text → Bool
