@@ -23,7 +23,12 @@ from debvote_tools.inbox.letter import Body
 from debvote_tools.inbox.letter_lines import ReadLetter, from_json, read_letters
 from debvote_tools.inbox.mailbox import RawLetter
 from debvote_tools.inbox.reasons import Reason, ReasonWithValues
-from debvote_tools.inbox.rules import Circumstances, LetterCase, LetterOutcome
+from debvote_tools.inbox.rules import (
+    Circumstances,
+    LetterCase,
+    LetterOutcome,
+    why_not_own_vote,
+)
 from debvote_tools.inbox.vote import Vote
 from debvote_tools.text import times
 
@@ -269,8 +274,10 @@ def judge_all(cases: Iterable[LetterCase], by_elector: BallotsByElector) -> list
         if case.outcome is LetterOutcome.WAITS and not case.is_decided and case.other_vote:
             case.outcome = LetterOutcome.OTHER_VOTE
             case.reason = Reason.OTHER_MARK(mark=case.other_vote)
-        elif case.outcome is LetterOutcome.WAITS and not case.is_decided and case.is_passed_over:
+        # also one that was taken back
+        elif case.outcome is LetterOutcome.WAITS and (why := why_not_own_vote(case)):
             case.outcome = LetterOutcome.PASSED_OVER
+            case.reason = why
         case.voted_since = voted_since(case, by_elector)
     return cases
 

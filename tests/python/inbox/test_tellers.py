@@ -356,6 +356,15 @@ class Paper(teller_elections.TellerElectionTest):
         )
         self.assertEqual(self.told("held").count("a ballot that somebody can read"), 2)
 
+    def test_a_click_that_was_taken_back_does_not_wait_beside_paper(self):
+        self.begun_with()
+        self.told("undo --yes")
+        self.assertEqual(self.status()["waiting"], 5)
+        self.paper("ada")
+        self.assertEqual(self.status()["waiting"], 4)
+        self.told("undo --yes")
+        self.assertEqual(self.status()["waiting"], 5)
+
     def test_paper_holds_until_its_line_goes(self):
         for how in ("strike", "undo"):
             with self.subTest(how):
