@@ -15,7 +15,7 @@ from typing import Any
 
 from debvote_tools.book import queries
 from debvote_tools.book.book import Book
-from debvote_tools.book.queries import Ballot, KeptBlock, KeptLetter
+from debvote_tools.book.queries import Ballot, KeptLetter
 from debvote_tools.call.tellers import ON_PAPER
 from debvote_tools.election import BOX_KEY, KEYRING, History
 from debvote_tools.grouping import grouped
@@ -244,10 +244,7 @@ def of_tellers(book: Book, history: History) -> dict[str, Any]:
     """What letters of a vote with tellers are judged by, too."""
     if not history.tellers:
         return {}
-    first: dict[str, KeptBlock] = {}
-    for kept in queries.kept_blocks(book):
-        before = first.setdefault(kept.block, kept)
-        first[kept.block] = min(before, kept, key=lambda one: (one.arrived, one.letter))
+    first = {kept.block: kept for kept in reversed(queries.kept_blocks(book))}
     on_paper = queries.electors_with(book, ON_PAPER)
     return {"has_tellers": True, "on_paper": on_paper, "first_blocks": first}
 
