@@ -668,13 +668,15 @@ class KeptBlock(NamedTuple):
 
 
 def kept_blocks(book: Book) -> list[KeptBlock]:
+    """All that came, by the times of the host."""
     statement = """
-      SELECT known ->> 'block' AS block, known ->> 'elector', known ->> 'arrived', letter FROM letter
-      WHERE block <> '' AND known ->> 'arrived' IS NOT NULL
+      SELECT known ->> 'block' AS block, known ->> 'elector', known ->> 'arrived' AS arrived, letter FROM letter
+      WHERE block <> '' AND arrived IS NOT NULL ORDER BY unixepoch(arrived), letter
     """
     rows = book.rows(statement)
     return [
-        KeptBlock(block, elector, from_text(time), letter) for block, elector, time, letter in rows
+        KeptBlock(block, elector, from_text(arrived), letter)
+        for block, elector, arrived, letter in rows
     ]
 
 

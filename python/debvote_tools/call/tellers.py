@@ -152,16 +152,14 @@ def sealed_slips(
     """The blocks of ballots on paper, by numbers with their ranks, which are drawn here."""
     from debvote_tools.call.sealed_ballots import block_of
 
-    numbers = set[str]()
-    blocks = {}
-    for ranks in slips:
-        number = ""
-        while not number or number in numbers:
-            number = "".join(secrets.choice(OWN_SIGNS) for _ in range(NUMBER_LENGTH))
-        numbers.add(number)
-        line = f"{number} {ranks}"
-        blocks[line] = block_of(line, len(poll.names), mark, [*tellers.values()])
-    return blocks
+    slips = [*slips]
+    places = [len(OWN_SIGNS) ** place for place in range(NUMBER_LENGTH)]
+    # none is drawn twice
+    drawn = secrets.SystemRandom().sample(range(len(OWN_SIGNS) * places[-1]), len(slips))
+    signs = ([OWN_SIGNS[one // place % len(OWN_SIGNS)] for place in places] for one in drawn)
+    lines = [f"{''.join(number)} {ranks}" for number, ranks in zip(signs, slips)]
+    points = [*tellers.values()]
+    return {line: block_of(line, len(poll.names), mark, points) for line in lines}
 
 
 def first_list(title: str, mark: str, tellers: Mapping[str, str], blocks: Sequence[str]) -> bytes:

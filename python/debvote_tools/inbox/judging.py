@@ -15,7 +15,7 @@ from typing import Any
 
 from debvote_tools.book import queries
 from debvote_tools.book.book import Book
-from debvote_tools.book.queries import Ballot, KeptBlock, KeptLetter
+from debvote_tools.book.queries import Ballot, KeptLetter
 from debvote_tools.call.tellers import ON_PAPER
 from debvote_tools.election import BOX_KEY, KEYRING, History
 from debvote_tools.grouping import grouped
@@ -23,7 +23,12 @@ from debvote_tools.inbox.letter import Body
 from debvote_tools.inbox.letter_lines import ReadLetter, from_json, read_letters
 from debvote_tools.inbox.mailbox import RawLetter
 from debvote_tools.inbox.reasons import Reason, ReasonWithValues
-from debvote_tools.inbox.rules import Circumstances, LetterCase, LetterOutcome
+from debvote_tools.inbox.rules import (
+    Circumstances,
+    LetterCase,
+    LetterOutcome,
+    why_not_own_vote,
+)
 from debvote_tools.inbox.vote import Vote
 from debvote_tools.text import times
 
@@ -239,10 +244,7 @@ def of_tellers(book: Book, history: History) -> dict[str, Any]:
     """What letters of a vote with tellers are judged by, too."""
     if not history.tellers:
         return {}
-    first: dict[str, KeptBlock] = {}
-    for kept in queries.kept_blocks(book):
-        before = first.setdefault(kept.block, kept)
-        first[kept.block] = min(before, kept, key=lambda one: (one.arrived, one.letter))
+    first = {kept.block: kept for kept in reversed(queries.kept_blocks(book))}
     on_paper = queries.electors_with(book, ON_PAPER)
     return {"has_tellers": True, "on_paper": on_paper, "first_blocks": first}
 
@@ -269,8 +271,10 @@ def judge_all(cases: Iterable[LetterCase], by_elector: BallotsByElector) -> list
         if case.outcome is LetterOutcome.WAITS and not case.is_decided and case.other_vote:
             case.outcome = LetterOutcome.OTHER_VOTE
             case.reason = Reason.OTHER_MARK(mark=case.other_vote)
-        elif case.outcome is LetterOutcome.WAITS and not case.is_decided and case.is_passed_over:
+        # also one that was taken back
+        elif case.outcome is LetterOutcome.WAITS and (why := why_not_own_vote(case)):
             case.outcome = LetterOutcome.PASSED_OVER
+            case.reason = why
         case.voted_since = voted_since(case, by_elector)
     return cases
 

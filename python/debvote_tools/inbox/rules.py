@@ -255,11 +255,6 @@ class LetterCase:
         """
         return next(filter(None, (rule(self) for rule in RULES)), None)
 
-    @property
-    def is_passed_over(self) -> bool:
-        """Whether it neither counts nor waits: its elector voted on paper, or it is another's."""
-        return why_not_own_vote(self) is not None
-
     def can_hide(self, copy: "LetterCase") -> bool:
         """Whether it can hide a copy, also one that differs from it: it went in once, whatever was
         decided of it since, or breaks no rule. One that went in by hand, and arrived after the end,

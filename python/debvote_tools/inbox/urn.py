@@ -66,7 +66,7 @@ def faults_of_equal(
     election: Election, one: CountingBallot, other: CountingBallot
 ) -> Iterator[Fault]:
     """Two electors have sent the same sealed ballot, of whom the later one copied it."""
-    kept = sorted(queries.kept_blocks(election.book), key=lambda kept: (kept.arrived, kept.letter))
+    kept = queries.kept_blocks(election.book)
     senders = [record.elector for record in kept if record.block == one.block]
     # of one whose time nobody knows the other is the earlier one
     places = {elector: place for place, elector in reversed([*enumerate(senders)])}

@@ -108,6 +108,9 @@ class BadInput(elections.ElectionTest):
         self.assert_fault(ended, 2, "another vote has the keys of carla, dora", "make new keys")
         self.done("call --take-back")
         self.assertFalse((self.folder / "private/slips.html").exists())
+        self.write("tellers.txt", tellers.tellers_file())
+        self.done(CALL)
+        self.done("call --take-back")
         self.done(*f"{CALL} --folder {other}".split())
         # the first one asks for other keys now
         self.write("tellers.txt", tellers.tellers_file())
@@ -355,6 +358,24 @@ class Paper(teller_elections.TellerElectionTest):
             self.rows("SELECT line FROM envelope WHERE CAST(line AS TEXT) LIKE 'gus%'"), []
         )
         self.assertEqual(self.told("held").count("a ballot that somebody can read"), 2)
+
+    def test_a_click_that_was_taken_back_does_not_wait_beside_paper(self):
+        self.begun_with()
+        self.told("undo --yes")
+        self.assertEqual(self.status()["waiting"], 5)
+        self.paper("ada")
+        self.assertEqual(self.status()["waiting"], 4)
+        self.told("undo --yes")
+        self.assertEqual(self.status()["waiting"], 5)
+
+    def test_a_new_address_makes_a_new_link_and_no_codes(self):
+        self.begun_with()
+        said = self.new_address("ada")
+        self.assertIn("upload", said)
+        for word in ("slips.html", "code"):
+            self.assertNotIn(word, said)
+        self.assertFalse((self.folder / "private/codes.csv").exists())
+        self.assertEqual(self.status()["voters"], 5)
 
     def test_paper_holds_until_its_line_goes(self):
         for how in ("strike", "undo"):
