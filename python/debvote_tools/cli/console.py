@@ -17,7 +17,7 @@ import sys
 import textwrap
 import unicodedata
 from collections.abc import Callable, Iterable, Sequence
-from typing import IO, NoReturn
+from typing import IO, Literal, NoReturn
 
 from debvote_tools.cli.faults import Fault, Status
 from debvote_tools.text.times import offset_of
@@ -32,6 +32,18 @@ LEAVING_OUT = contextvars.ContextVar[Callable[[str], str]]("leaving out", defaul
 # a command says, and in a secret vote with a web box ballots come by no mail
 FOR_TERMINALS = contextvars.ContextVar[bool]("for terminals", default=False)
 
+
+# set where the office runs a command: a person is there, who sees what it writes and answers. A
+# question stands between characters that no other text has (`written`), and before it what is
+# asked, so that nobody has to know it by its words
+AT_OFFICE = "DEBVOTE_OFFICE" in os.environ
+ASKS = "\x05"
+IS_ASKED = "\x1f"
+ASKED = "\x06"
+
+# what is asked for: a ballot, one of a list, a yes, a yes to a line that would not count, a text,
+# or a password
+Kind = Literal["ballot", "choice", "yes", "refused", "text", "password"]
 
 # of a command that came to no good end
 REPORTED = "what the command has reported is done"
@@ -76,11 +88,21 @@ def has_output() -> bool:
 
 def is_terminal() -> bool:
     """Whether a person is there, who sees the output and can answer."""
-    return sys.stdin is not None and sys.stdin.isatty() and shows()
+    return is_typed() and shows()
+
+
+def is_typed() -> bool:
+    """Whether what comes by standard input is typed."""
+    return sys.stdin is not None and (AT_OFFICE or sys.stdin.isatty())
+
+
+def has_input() -> bool:
+    """Whether standard input has something to be read: at the office it has answers alone."""
+    return sys.stdin is not None and not AT_OFFICE
 
 
 def shows() -> bool:
-    return sys.stdout is not None and sys.stdout.isatty()
+    return sys.stdout is not None and (AT_OFFICE or sys.stdout.isatty())
 
 
 def tell(*lines: str) -> None:
@@ -135,20 +157,31 @@ def failed(program: str, words: str, status: int) -> int:
     return status
 
 
-def typed(question: str) -> bytes | None:
+def typed(question: str, kind: Kind) -> bytes | None:
     """The answer to a question, with its line end; None at the end of the input."""
-    tell_as_it_is(written(question))
+    question = written(question)
+    tell_as_it_is(f"{ASKS}{kind}{IS_ASKED}{question}{ASKED}" if AT_OFFICE else question)
     line = sys.stdin.buffer.readline()
     if not line:
         tell("")
     return line or None
 
 
-def is_yes(question: str) -> bool | None:
+def typed_unseen(question: str) -> str:
+    """A password that is typed; empty at the end of the input."""
+    if AT_OFFICE:
+        return (typed(question, "password") or b"").decode().rstrip("\n")
+    # few runs need it
+    import getpass
+
+    return getpass.getpass(question)
+
+
+def is_yes(question: str, kind: Kind = "yes") -> bool | None:
     """Whether the answer is yes; None at the end of the input. After another answer it asks
     again.
     """
-    while (answer := typed(f"{question} [y/n] ")) is not None:
+    while (answer := typed(f"{question} [y/n] ", kind)) is not None:
         word = answer.strip().lower()
         if word in (b"y", b"yes", b"n", b"no"):
             return word.startswith(b"y")
@@ -206,7 +239,8 @@ def number_of(character: str) -> str:
 
 def private(text: str) -> str:
     """What people wrote, or what is wrong with it, which may say what they chose."""
-    is_shown = all(output and output.isatty() for output in (sys.stdout, sys.stderr))
+    outputs = (sys.stdout, sys.stderr)
+    is_shown = AT_OFFICE or all(output and output.isatty() for output in outputs)
     return "(shown at a terminal alone)" if text and FOR_TERMINALS.get() and not is_shown else text
 
 

@@ -12,7 +12,7 @@ from debvote_tools.book.book import Detail, DoneAct
 from debvote_tools.book.change import carried_out
 from debvote_tools.book.queries import Elector, NewEnvelope
 from debvote_tools.cli.arguments import flag, option
-from debvote_tools.cli.console import private, shown_line, shown_text, tell, typed
+from debvote_tools.cli.console import is_typed, private, shown_line, shown_text, tell, typed
 from debvote_tools.cli.faults import Fault, Status, bad_words
 from debvote_tools.debvote import TABLE
 from debvote_tools.election import Election, History
@@ -26,6 +26,8 @@ from debvote_tools.text.language import ENGLISH
 
 QUIT = b"q"
 NOT_ENTERED = "It was not entered."
+# what is asked of a line that is no ballot
+REFUSED = "It would not count. Enter it anyway?"
 
 # in place of a line that is no ballot here
 NO_LINE = b"-"
@@ -194,6 +196,7 @@ def what_is_cast(desk: Desk, lines: list[CheckedLine], elector: int | None, asks
         detail,
         shown=shown,
         question=asked,
+        kind="refused" if asked == REFUSED else "yes",
         is_nothing=not lines,
         vote=vote,
         envelopes=[
@@ -234,7 +237,7 @@ def desk(election: Election, arguments: Arguments) -> None:
         )
     try:
         desk.ask_if_reopened(history)
-        cast = at_terminal if sys.stdin.isatty() else from_pipe
+        cast = at_terminal if is_typed() else from_pipe
         cast(desk)
     except KeyboardInterrupt:
         tell("")
@@ -299,7 +302,7 @@ def at_terminal(desk: Desk) -> None:
     tell(
         f"Type a ballot as {vote.right_line} ({'the code' if vote.has_codes else 'the elector'}, {order}); q ends."
     )
-    while not desk.is_over and (answer := typed("Ballot: ")) is not None:
+    while not desk.is_over and (answer := typed("Ballot: ", "ballot")) is not None:
         line = next(iter(desk.lines_of(answer)), None)
         if line is None or line.is_empty:
             tell("Type a ballot, or q to end.")
@@ -373,7 +376,7 @@ def chosen_of(electors: Sequence[Elector], name: str) -> Elector | None:
     tell(f"`{name}` is part of {len(electors)} names:")
     for place, elector in enumerate(electors[:MAX_NAMES], start=1):
         tell(f"  {place} {elector.name} ({shown_text(elector.who)})")
-    answer = (typed("Type the number of one, or n for none: ") or b"").strip()
+    answer = (typed("Type the number of one, or n for none: ", "choice") or b"").strip()
     number = int(answer) if answer.isdigit() else 0
     return electors[number - 1] if 0 < number <= len(electors[:MAX_NAMES]) else None
 
@@ -403,7 +406,7 @@ def question(
         else:
             shown.append(desk.vote.in_words(line))
     if not (ballots := [line for line in lines if line.is_ballot]):
-        return shown, "It would not count. Enter it anyway?"
+        return shown, REFUSED
     if is_late:
         shown.append("It is late, and will not count.")
     elif elector is not None:
