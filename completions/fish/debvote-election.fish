@@ -66,6 +66,7 @@ complete -c debvote-election -n "__fish_seen_subcommand_from add" -l came-before
 complete -c debvote-election -n "__fish_seen_subcommand_from add" -l moved -d "Go on although the election was moved here, or an older copy was restored; the result page says so."
 complete -c debvote-election -n "__fish_seen_subcommand_from add" -l because -x -d "The reason, in your words, for --moved, --force, strike or reopen."
 complete -c debvote-election -n "__fish_seen_subcommand_from add" -F
+complete -c debvote-election -n "__fish_seen_subcommand_from desk" -l name -x -d "The name of this desk, as `Table 2`: log, show and receipts tell where a ballot was."
 complete -c debvote-election -n "__fish_seen_subcommand_from desk" -l question -x -d "Of several questions the one that is answered: type the ballot without its label."
 complete -c debvote-election -n "__fish_seen_subcommand_from desk" -l force -d "From a pipe: enter also late ballots that came before the first close, and replace others in time."
 complete -c debvote-election -n "__fish_seen_subcommand_from desk" -l came-before-close -x -a "yes no" -d "After reopen: whether the ballots came before the first close (default: ask at the terminal)."

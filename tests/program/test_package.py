@@ -40,8 +40,9 @@ PACKED = [
 # the files that a user looks for, each in its folder
 DOCS = "SECRETARY SECRET-VOTES SPECIAL-CASES READING-A-SHEET FORMATS INSIDE DEFINITIONS"
 WANTED = {
-    "bin": "debvote debvote-publish debvote-election",
-    "share/man/man1": "debvote.1.gz debvote-publish.1.gz debvote-election.1.gz",
+    "bin": "debvote debvote-publish debvote-election debvote-office",
+    "share/applications": "debvote-office.desktop",
+    "share/man/man1": "debvote.1.gz debvote-publish.1.gz debvote-election.1.gz debvote-office.1.gz",
     "share/bash-completion/completions": "debvote debvote-election",
     "share/zsh/vendor-completions": "_debvote _debvote-election",
     "share/fish/vendor_completions.d": "debvote.fish debvote-election.fish",

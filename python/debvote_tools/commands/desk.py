@@ -12,7 +12,16 @@ from debvote_tools.book.book import Detail, DoneAct
 from debvote_tools.book.change import carried_out
 from debvote_tools.book.queries import Elector, NewEnvelope
 from debvote_tools.cli.arguments import flag, option
-from debvote_tools.cli.console import is_typed, private, shown_line, shown_text, tell, typed
+from debvote_tools.cli.console import (
+    LINE_ENDS,
+    is_typed,
+    odd_sign,
+    private,
+    shown_line,
+    shown_text,
+    tell,
+    typed,
+)
 from debvote_tools.cli.faults import Fault, Status, bad_words
 from debvote_tools.debvote import TABLE
 from debvote_tools.election import Election, History
@@ -39,6 +48,8 @@ MOST_ABOVE = 100
 READ = 65_536
 # a name as people type it, and ranks
 TYPED = re.compile(r"(.+?)\s+([\d-].*)")
+# in characters: the longest name of a desk
+LONGEST_NAME = 40
 # how many names are listed to choose from
 MAX_NAMES = 9
 
@@ -46,6 +57,10 @@ MAX_NAMES = 9
 class Arguments(entering.Arguments):
     nothing = "entered"
 
+    name: str | None = option(
+        "TEXT",
+        "The name of this desk, as `Table 2`: log, show and receipts tell where a ballot was",
+    )
     question: str | None = option(
         "LABEL", "Of several questions the one that is answered: type the ballot without its label"
     )
@@ -59,6 +74,7 @@ class Desk:
     """A desk, and the replies to what was cast there."""
 
     vote: Vote
+    name: str | None
     # what --came-before-close says, and what was said of the ballots of this desk
     answer: str | None
     is_forced: bool
@@ -188,7 +204,7 @@ def what_is_cast(desk: Desk, lines: list[CheckedLine], elector: int | None, asks
         shown = [
             f"{words}; it was not entered (--force enters it)." for words in replacing.values()
         ]
-    detail: Detail = {"lines": len(lines)}
+    detail: Detail = {"lines": len(lines)} | ({"desk": desk.name} if desk.name else {})
     if history.is_reopened:
         detail["came_before_close"] = desk.came_before_close
     return Casting(
@@ -227,7 +243,8 @@ def desk(election: Election, arguments: Arguments) -> None:
             f"the labels are {', '.join(vote.names.labels) or 'none: this vote has one question'}",
             "give one of them",
         )
-    desk = Desk(vote, arguments.came_before_close, arguments.force)
+    name = None if arguments.name is None else name_of_desk(arguments.name)
+    desk = Desk(vote, name, arguments.came_before_close, arguments.force)
     history = election.history()
     desk.notes = entering.late_notes(election, history, "what is entered")
     tell(*desk.notes)
@@ -242,6 +259,16 @@ def desk(election: Election, arguments: Arguments) -> None:
     except KeyboardInterrupt:
         tell("")
     tell(f"This desk has entered {summary(desk.replies)}.", f"Next: {election.command('status')}")
+
+
+def name_of_desk(text: str) -> str:
+    """The name of a desk, as it is told. No answer that quotes it reads as ranks."""
+    name = " ".join(text.split())
+    odd = odd_sign(name, refused=f"{LINE_ENDS},")
+    if not 0 < len(name) <= LONGEST_NAME or odd is not None:
+        reason = f"it has 1 to {LONGEST_NAME} plain characters, and no comma"
+        raise bad_words("--name", reason, "write another name")
+    return name
 
 
 # ---- from a pipe
