@@ -338,22 +338,6 @@ class Election:
                 words = f"it would be in the folder {name}, whose files go to others"
                 raise bad_words(target, words, "name a place outside that folder", done)
 
-    def to_all(self, kind: str, file: pathlib.Path, *, is_ready: bool = False) -> str:
-        """How a letter goes to all: where nobody knows whose each code is, none can be written to
-        an elector.
-        """
-        history = self.history()
-        if history.has_codes_on_roll:
-            return f"send {file} to all electors"
-        send = self.command("letters", "--send")
-        write = self.command("letters", kind)
-        if is_ready:
-            return f"{send}, or your mail program, sends these letters"
-        # codes may be on slips
-        if kind == "call" and self.questions.is_secret and not history.is_secret_by_click:
-            return f"{write} writes letters, with the codes"
-        return f"{send} sends the letters, or {write} writes them"
-
     def command(self, *words: str) -> str:
         folder = [] if self.folder == pathlib.Path() else ["--folder", str(self.folder)]
         return shlex.join(["debvote-election", *words[:1], *folder, *words[1:]])

@@ -312,6 +312,11 @@ class Book:
                 last = self.last_act()
                 self.note().put(Note(last.number, last.digest, self.names), is_moved=is_moved)
 
+    def note_done(self, name: str, act: int) -> None:
+        """Notes that something is done up to an act, if a note can be written."""
+        with contextlib.suppress(Fault, OSError):
+            self.note().put_done(name, act)
+
     def strangeness(self) -> str | None:
         """Why this is not the book that this machine knows; None if it is."""
         noted = self.note().read()

@@ -5,6 +5,9 @@ lacks. It lies outside of the election's folder. So a copy of yesterday that is 
 that another machine went on with, and a book that somebody wrote anew are noticed. It gets its room
 on the disk before an act and its content after the commit, and goes only forward: a kill leaves it
 at an earlier act of the same book, never at one that the book lacks.
+
+What is done beside the book is in it, too: up to which act there is a backup, and up to which the
+secretary says that something was uploaded or sent.
 """
 
 import contextlib
@@ -21,8 +24,8 @@ MACHINE_ID = pathlib.Path("/etc/machine-id")
 MACHINE_DIGITS = 16
 
 # how much longer a note may be than one of act 0 without a digest: a number, a digest, and for each
-# of some twenty names of acts a number
-ROOM = 20 + 64 + 20 * 40
+# of some twenty names of acts, and of five of what is done, a number
+ROOM = 20 + 64 + 25 * 40
 
 
 def state_folder() -> pathlib.Path:
@@ -47,6 +50,8 @@ class Note(NamedTuple):
     act: int
     digest: str
     names: Mapping[str, int] = {}
+    # the act up to which something is done beside the book, by its name
+    done: Mapping[str, int] = {}
 
 
 class MachineNote:
@@ -63,7 +68,9 @@ class MachineNote:
         """The act that this machine noted; None if it has never seen this book here."""
         try:
             noted = json.loads(self.file.read_text())
-            return Note(int(noted["act"]), str(noted["digest"]), dict(noted["names"]))
+            # a note of an earlier program has nothing that is done
+            done = dict(noted.get("done", {}))
+            return Note(int(noted["act"]), str(noted["digest"]), dict(noted["names"]), done)
         except FileNotFoundError:
             return None
         except (OSError, ValueError, LookupError, TypeError) as error:
@@ -81,9 +88,18 @@ class MachineNote:
         with self.under_lock():
             before = None if is_moved else self.read()
             if before is None or before.act < note.act:
-                self.write_next(self.as_bytes(note))
-                os.rename(self.next, self.file)
-                sync_folder(self.folder)
+                self.replace(note._replace(done=before.done if before else {}))
+
+    def put_done(self, name: str, act: int) -> None:
+        """Notes that something is done up to an act of the book that is noted."""
+        with self.under_lock():
+            if before := self.read():
+                self.replace(before._replace(done={**before.done, name: act}))
+
+    def replace(self, note: Note) -> None:
+        self.write_next(self.as_bytes(note))
+        os.rename(self.next, self.file)
+        sync_folder(self.folder)
 
     def write_next(self, content: bytes) -> None:
         """Writes over what is to take the place of the note, with the room of the longest note."""

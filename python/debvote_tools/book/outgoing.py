@@ -127,15 +127,21 @@ UNREACHED = f"""
   SELECT elector, address, act, 'refused' AS why, coalesce(reply, '') AS said FROM answered WHERE state = 'refused'
   UNION ALL SELECT elector, address, act, 'came back', '' FROM returned
 ), now AS MATERIALIZED (SELECT elector, position, address_in(mail) AS address FROM elector_now WHERE position IS NOT NULL)
-SELECT elector, coalesce(why, 'no letter'), coalesce(said, ''), max(2 * failed.act + (why = 'refused'))
+SELECT elector, coalesce(why, 'no letter'), coalesce(said, ''), coalesce(max(2 * failed.act + (why = 'refused')), 0) / 2
 FROM now LEFT JOIN answered USING (elector, address) LEFT JOIN failed USING (elector, address)
 WHERE why IS NOT NULL OR NOT coalesce(has_call, 0) GROUP BY elector ORDER BY position
 """
 
 
-def unreached(book: Book, page: int, call: int, without: int) -> list[tuple[int, str, str]]:
-    """The electors whom the call has not reached, why, and what a server said."""
-    return [row[:3] for row in book.rows(UNREACHED, page, call, without)]
+def unreached(book: Book, page: int, call: int, without: int) -> list[tuple[int, str, str, int]]:
+    """The electors whom the call has not reached, why, what a server said, and since which act, 0
+    if none has gone out.
+    """
+    return book.rows(UNREACHED, page, call, without)
+
+
+def was_refused(book: Book) -> bool:
+    return bool(book.value("SELECT EXISTS (SELECT 1 FROM sent WHERE state = 'refused')"))
 
 
 def call_addresses(book: Book, call: int) -> dict[str, list[str]]:
@@ -169,3 +175,70 @@ ORDER BY after.act
 def old_addresses(book: Book, call: int) -> dict[int, list[str]]:
     """The addresses of electors before a change after the call, if no receipt was written since."""
     return grouped(book.rows(OLD_ADDRESSES, call))
+
+
+# to which electors a letter of a kind for an act is through, and by which act at last: a server
+# took it, or never will, or it is on paper
+THROUGH = """
+SELECT elector, max(act) FROM sent WHERE kind = ?1 AND act > ?2 AND (
+  state = 'taken' OR state = 'refused' AND detail ->> 'reply' NOT LIKE '4%' OR detail ->> 'address' = ''
+) AND detail ->> 'for_act' = ?2 GROUP BY elector
+"""
+
+
+def through(book: Book, kind: str, for_act: int) -> dict[int, int]:
+    return dict(book.rows(THROUGH, kind, for_act))
+
+
+# since which act each elector whose entry changed after ?1 has the own mark of now
+NEW_MARKS = """
+SELECT elector, (
+  SELECT min(act) FROM elector_state AS first WHERE first.elector = last.elector AND first.mark = last.mark
+) FROM (SELECT elector, mark, max(act) FROM elector_state WHERE act > ? GROUP BY elector) AS last
+"""
+
+
+def new_marks(book: Book, call: int) -> dict[int, int]:
+    return dict(book.rows(NEW_MARKS, call))
+
+
+# what receipts have told, which a server took, or which went to an address that their elector still
+# has: all have who did not change since the call, ?1
+TOLD = """
+SELECT elector, value ->> 0 AS what, value ->> 1 AS number, value ->> 2 FROM sent, json_each(detail, '$.about')
+WHERE kind = 'receipts' AND (
+  state = 'taken' OR elector NOT IN (SELECT elector FROM elector_state WHERE act > ?1) OR detail ->> 'address' IN (
+    SELECT value FROM elector_now, json_each(mail) WHERE elector_now.elector = sent.elector UNION SELECT ''
+  )
+)
+"""
+# the electors on the list with envelopes after an act, ?2, of which no receipt tells as they are now
+UNTOLD = f"""
+SELECT DISTINCT elector FROM entered JOIN elector_now USING (elector) WHERE position IS NOT NULL
+AND max(entered.act, coalesce(struck, 0)) > ?2 AND (elector, 'envelope', envelope, struck IS NOT NULL) NOT IN ({TOLD})
+"""
+
+
+def untold(book: Book, call: int, after: int) -> set[int]:
+    return {elector for elector, in book.rows(UNTOLD, call, after)}
+
+
+def told_letters(book: Book, call: int) -> set[tuple[int, int]]:
+    """The electors, with the letters of which receipts tell them."""
+    query = f"SELECT elector, number FROM ({TOLD}) WHERE what = 'letter'"
+    return set(book.rows(query, call))
+
+
+# the receipts since an act, but for those on paper, that no server took, and none refused for good
+UNSENT = """
+SELECT elector, detail ->> 'about' FROM (
+  SELECT elector, act, state, detail, max(sent) FROM sent WHERE kind = 'receipts' AND elector IN (
+    SELECT elector FROM sent WHERE kind = 'receipts' GROUP BY elector HAVING total(state = 'written') > total(state = 'taken') AND max(act) > ?1
+  ) GROUP BY detail ->> 'message_id'
+) WHERE act > ?1 AND detail ->> 'address' <> '' AND (state = 'written' OR state = 'refused' AND detail ->> 'reply' LIKE '4%')
+"""
+
+
+def unsent_receipts(book: Book, since: int) -> list[tuple[int, list[About]]]:
+    """The electors of these, and what each is about."""
+    return [(elector, json.loads(about)) for elector, about in book.rows(UNSENT, since)]

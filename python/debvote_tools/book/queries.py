@@ -623,6 +623,24 @@ def may_wait(book: Book) -> list[KeptLetter]:
     return kept_letters(book, condition)
 
 
+def may_be_told(book: Book) -> list[KeptLetter]:
+    """The letters that may wait, and those of which a receipt may tell in place of a ballot: they
+    were set aside, or a person chose what was entered.
+    """
+    unsettled = f"SELECT identity FROM letter_now WHERE state IN {UNSETTLED}"
+    by_hand = "SELECT letter FROM envelope JOIN act USING (act) WHERE name = 'enter'"
+    condition = (
+        f"state IN {(SET_ASIDE, STRUCK)} OR identity IN ({unsettled}) OR letter IN ({by_hand})"
+    )
+    return kept_letters(book, condition)
+
+
+def entered_pairs(book: Book, letters: Iterable[int]) -> set[tuple[int, int]]:
+    """The electors with ballots that were entered of these letters."""
+    query = "SELECT elector, letter FROM envelope WHERE letter IN (SELECT value FROM json_each(?))"
+    return set(book.rows(query, json.dumps([*letters])))
+
+
 def keep_letter(act: NewAct, where: str, data: bytes, identity: str, read_json: str) -> int:
     """Keeps a letter, byte for byte, and returns its number."""
     return act.insert(

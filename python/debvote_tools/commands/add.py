@@ -22,6 +22,7 @@ from debvote_tools.inbox.given_files import GivenFile, read_files
 from debvote_tools.inbox.lines import MARK, Line, lines_in
 from debvote_tools.inbox.option_names import OptionNames
 from debvote_tools.inbox.vote import IN_ORDER, CheckedLine, Vote, replies_to, summary
+from debvote_tools.outbox.steps import tell_next
 from debvote_tools.text.ballots import part_of
 
 FORCE = "add it anyway with --force"
@@ -65,17 +66,19 @@ def add(election: Election, arguments: Arguments) -> None:
     letters, files = ([], []) if arguments.box else read_files(election, arguments.files)
     if files:
         take_lines(vote, files, arguments)
-        return
-    if of_lines := given(arguments, "force", "came_before_close"):
+    elif of_lines := given(arguments, "force", "came_before_close"):
         raise bad_words(
             ", ".join(of_lines), "only for lines, and these are letters", "leave this out"
         )
-    # what reads letters takes a while to be imported
-    from debvote_tools.inbox.taking import take_letters
+    else:
+        # what reads letters takes a while to be imported
+        from debvote_tools.inbox.taking import take_letters
 
-    take_letters(
-        vote, letters, of_box=arguments.box, is_look=arguments.look, is_agreed=arguments.yes
-    )
+        take_letters(
+            vote, letters, of_box=arguments.box, is_look=arguments.look, is_agreed=arguments.yes
+        )
+    if not arguments.look:
+        tell_next(election)
 
 
 # ---- lines
@@ -212,15 +215,7 @@ def take_lines(vote: Vote, files: Sequence[GivenFile], arguments: Arguments) -> 
     if arguments.look:
         look(vote, lines, arguments)
         return
-    change = carried_out(vote.book, lambda: what_is_added(vote, lines, arguments))
-    command = vote.election.command
-    if change.new.history.is_closed:
-        tell(f"Next: {command('count')}")
-    else:
-        tell(
-            f"Next: {command('status')}; add more ballots with {command('add', 'FILE')}, "
-            f"and when the vote is over: {command('close')}"
-        )
+    carried_out(vote.book, lambda: what_is_added(vote, lines, arguments))
 
 
 def lines_of_files(vote: Vote, files: Sequence[GivenFile]) -> list[FileLines]:

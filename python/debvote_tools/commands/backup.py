@@ -6,6 +6,7 @@ from debvote_tools.cli.arguments import Options, positional
 from debvote_tools.cli.console import tell
 from debvote_tools.commands.export import demand_new
 from debvote_tools.election import Election
+from debvote_tools.outbox.steps import Step, tell_next
 
 
 class Arguments(Options):
@@ -19,6 +20,8 @@ def backup(election: Election, arguments: Arguments) -> None:
     demand_new(election, target, "file")
     last = book.last_number()
     book.back_up(target)
+    book.note_done(Step.BACKUP.value, last)
     tell(
         f"Copied the book up to act {last} into {target}. Only you can read it; it holds everything that came or was done."
     )
+    tell_next(election)

@@ -15,7 +15,7 @@ from debvote_tools.call.call import CallData, call_files, call_letter, current_c
 from debvote_tools.call.draft import letter_text_in, texts_of
 from debvote_tools.call.secret import aliased, demand_no_code
 from debvote_tools.cli.arguments import Acting, flag, given, option
-from debvote_tools.cli.console import act_time, count_of, is_terminal, is_yes, tell
+from debvote_tools.cli.console import act_time, is_terminal, is_yes, tell
 from debvote_tools.cli.faults import Fault, bad_words, kept_in, stop_at
 from debvote_tools.commands.check import (
     Checked,
@@ -38,6 +38,7 @@ from debvote_tools.election import (
 from debvote_tools.files import OWN, PUBLIC, read_whole, write_made
 from debvote_tools.inbox.asked import last_box, unasked_fault
 from debvote_tools.inbox.signature import read_keyring
+from debvote_tools.outbox.steps import tell_next
 from debvote_tools.poll.announced import (
     demand_future,
     demand_web_address,
@@ -108,6 +109,7 @@ def call(election: Election, arguments: Arguments) -> None:
         call_again(election, arguments)
     make_folders(election)
     tell(*call_in_words(election, current_call(election)))
+    tell_next(election)
 
 
 # ---- the acts
@@ -258,8 +260,8 @@ def take_back(election: Election) -> None:
         tell(
             f"All {void_codes} codes are void, and their slips and table are removed: destroy what is printed."
         )
-    first = "call" if not void_codes else "roll" if is_on_roll else "codes"
-    tell(f"Next: put right what was wrong, then run {election.command(first)}")
+    tell("Put right what was wrong.")
+    tell_next(election)
 
 
 def remove_void(election: Election, history: History) -> None:
@@ -446,46 +448,35 @@ def call_in_words(election: Election, data: CallData) -> Iterator[str]:
         yield f"Print {slips}, cut the slips out, and let each elector draw one."
     elif data.has_aliases:
         yield "The vote is secret: the poll of the call has aliases, and the folder has no names of electors."
-        yield f"Print {slips}, cut the slips out, and give each elector their own."
+        yield (
+            f"Print {slips}, cut the slips out, and give each elector their own."
+            if data.has_slips
+            else "No slips: nobody can find their ballot in the result."
+        )
     yield f"Checksum of the {'polls' if is_several else 'poll'}: {data.questions.checksum}"
     yield f"Mark of the poll, at the end of each subject: {data.mark}"
     if data.until is not None:
         yield f"End of the vote: {times.time_in_words(data.until)}"
-    letter = folder / "call.txt"
     if data.is_extended:
-        letter = election.path(LETTERS) / EXTENSION
-        yield f"Made {letter}, the letter to all that says so."
+        yield f"Made {election.path(LETTERS) / EXTENSION}, the letter to all that says so."
     unsaid = {"when the vote ends (--until)": data.until, "where ballots go (--to)": data.to}
     if missing := [words for words, value in unsaid.items() if value is None]:
         yield f"The call does not say {' nor '.join(missing)}."
-    put = f"put {folder} on the web site"
     if data.has_box:
-        *notes, put = box_in_words(election, data)
-        yield from notes
+        yield from box_in_words(election, data)
     sealed = "The polls are sealed: polls/" if is_several else "The poll is sealed: poll.toml"
     yield f"{sealed} and texts/ of this folder are no longer read; roll still reads addresses and keys."
-    if election.history().closes:
-        yield f"Next: {election.command('status')}"
-        return
-    if data.to and (data.is_by_name or data.has_box):
-        yield f"Ready: {count_of(len(data.questions.roll), 'letter')} of the call"
-    tries = ", and tries first whether the page takes ballots" if data.has_box else ""
-    yield f"Next: {put}; then {election.to_all('call', letter)}{tries}; enter the ballots that come: {election.command('add', 'FILE')} or {election.command('desk')}"
 
 
 def box_in_words(election: Election, data: CallData) -> Iterator[str]:
     """Notes on the page of before, to which letters have links until that of now was asked, and on
-    asking; and last what is done with the folder: what lies at its address is fetched before
-    somebody deletes it.
+    asking.
     """
-    ask = election.command("add", "--box")
     asked_at = last_box(election.history()).get("at")
     if asked_at not in (None, data.at):
         yield f"Note: the page at {asked_at} still takes ballots, which add --box fetches no more: remove its {SCRIPT}, then fetch its file {records_file(data.box_key)} by FTP, and add it: {election.command('add', 'FILE')}."
     yield f"Make a copy of the book now: {election.command('backup', 'FILE')}. Without the book nobody can open what lies on the web host."
     yield f"To ask for the ballots of the page each hour, by cron: {cron_line(election)}"
-    first = f"run {ask}, then " if asked_at == data.at else ""
-    yield f"{first}upload the files of {election.path(CALL)} to {data.at}, {SCRIPT} too"
 
 
 def cron_line(election: Election) -> str:

@@ -33,6 +33,7 @@ from debvote_tools.election import LETTER_TEXT, MEMBERS_FILE, POLLS, TEXTS, Elec
 from debvote_tools.files import TABLE_LIMIT, read_whole
 from debvote_tools.inbox.letter_text import reading_of
 from debvote_tools.inbox.lines import names_of
+from debvote_tools.outbox.steps import Due, Step, next_line, tell_next
 from debvote_tools.poll.questions import POLL_FILE, TITLE_FILE, Questions, place_of, read_questions
 from debvote_tools.poll.sealed import SealedPoll
 from debvote_tools.sheet import sheet_in
@@ -54,7 +55,8 @@ def check(election: Election, arguments: Options) -> None:
         sealed = "poll, and poll.toml is"
         if election.questions.is_several:
             sealed = "polls, and polls/ is"
-        tell(f"The call has sealed the {sealed} no longer read. Next: {election.command('status')}")
+        tell(f"The call has sealed the {sealed} no longer read.")
+        tell_next(election)
         return
     draft = checked(election)
     questions = draft.questions
@@ -69,17 +71,8 @@ def check(election: Election, arguments: Options) -> None:
         tell(f"{label and f'{label}: '}{quorum_words(poll.quorum, draft.quorums[label])}")
     if not history.has_codes_on_roll:
         tell(f"Electors: {len(questions.roll)}", wrapped(questions.roll))
-    after = next_call(election)
-    if draft.lacks_codes:
-        after = (
-            f"{election.command('codes')}, since the vote is secret and electors have no codes yet"
-        )
-    tell(f"Next: {after}")
-
-
-def next_call(election: Election) -> str:
-    call = election.command("call", "--until", "YYYY-MM-DD HH:MM", "--to", "ADDRESS")
-    return f"{call} (the end of the vote, and the address for ballots; both are optional)"
+    # the draft alone says whether the vote will be secret
+    tell(next_line(election, [Due(Step.CODES if draft.lacks_codes else Step.CALL)]))
 
 
 # ---- asking debvote

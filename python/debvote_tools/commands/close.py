@@ -21,6 +21,7 @@ from debvote_tools.inbox.stopping import (
     taken_out_words,
     what_stops,
 )
+from debvote_tools.outbox.steps import Step, tell_next, words_of
 from debvote_tools.result.file_names import CLOSED
 from debvote_tools.result.publication import Kept, closing_letter, kept_of
 from debvote_tools.text import times
@@ -67,16 +68,12 @@ def close(election: Election, arguments: Arguments) -> None:
         ),
         f"Send {path} to all electors before you count anything.",
     )
-    ready = list[str]()
     if history.announced("to"):
         # what writes letters takes a while to be imported
         from debvote_tools.commands.letters import write_ready
 
-        ready = write_ready(election, "closed")
-    sending = f"{election.to_all('closed', path, is_ready=bool(ready))}; then "
-    # where nobody knows whose each code is, it is sent to all alone
-    first = "" if history.has_codes_on_roll else sending
-    tell(*ready, f"Next: {first}{election.command('count')}")
+        tell(*write_ready(election, "closed"))
+    tell_next(election)
 
 
 def still_taking_words(election: Election, history: History) -> Iterator[str]:
@@ -184,6 +181,7 @@ def what_is_closed(election: Election, arguments: Arguments) -> Closing:
         detail["because"] = demand_reason(arguments.because, "--force")
     came = came_last(election, history, lines_in_words(fixed))
     shown = [came, *other_votes_words(pending.other_votes)]
+    shown += words_of(election, Step.RECEIPTS)
     return Closing("close", detail, shown=shown, question=terminal_question(ALL, arguments.yes))
 
 

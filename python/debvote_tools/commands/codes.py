@@ -11,9 +11,10 @@ from debvote_tools.call.secret import alias_of, codes_csv, codes_for_roll, new_c
 from debvote_tools.cli.arguments import Acting, flag
 from debvote_tools.cli.console import count_of, tell
 from debvote_tools.cli.faults import Fault
-from debvote_tools.commands.check import checked, demand_read, next_call
+from debvote_tools.commands.check import checked, demand_read
 from debvote_tools.election import POLLS, PRIVATE, Election, Sealed
 from debvote_tools.files import OWN, write_made
+from debvote_tools.outbox.steps import Step, tell_next
 from debvote_tools.poll.questions import POLL_FILE, Questions
 
 SLIPS = "slips.html"
@@ -44,12 +45,9 @@ def codes(election: Election, arguments: Arguments) -> None:
     history = election.history()
     private = election.path(PRIVATE)
     write_slips(election, sealed)
-    # another call would make the vote longer
     when = ""
-    after = election.command("status")
     if history.call is None:
         when = " after the call, which adds the end of the vote and the address for ballots"
-        after = next_call(election)
     tell(f"The slips: {private / SLIPS}. Print them{when}.")
     if history.has_codes_on_roll:
         tell(
@@ -57,7 +55,8 @@ def codes(election: Election, arguments: Arguments) -> None:
         )
     else:
         tell(f"The table of codes: {private / CODES}. Let nobody else see it.")
-    tell(f"Next: {after}")
+    # it has checked the poll
+    tell_next(election, Step.CHECK)
 
 
 def make_codes(election: Election, arguments: Arguments) -> tuple[Questions, int]:

@@ -1,24 +1,17 @@
 """The command `count`, which prints the result sheet."""
 
-from collections.abc import Collection, Mapping
+from collections.abc import Collection, Mapping, Sequence
 
 from debvote_tools.cli.arguments import Acting, flag, option
 from debvote_tools.cli.console import tell, tell_as_it_is, tell_aside
 from debvote_tools.cli.faults import bad_words, stop_at
-from debvote_tools.election import Election, History
+from debvote_tools.election import Election
 from debvote_tools.inbox.asked import asked_words
 from debvote_tools.inbox.asking import ask_for
 from debvote_tools.inbox.stopping import Pending, pending_letters, what_stops
+from debvote_tools.outbox.steps import Step, next_line, what_next
 from debvote_tools.poll.questions import Questions
-from debvote_tools.result.casting import (
-    CASTING,
-    Castings,
-    castings_in,
-    in_shell,
-    named,
-    publishing,
-    unneeded_words,
-)
+from debvote_tools.result.casting import CASTING, castings_in, unneeded_words
 from debvote_tools.result.publication import demand_countable, kept_of, sheet_of
 from debvote_tools.sheet import Sheet
 
@@ -60,7 +53,7 @@ def count(election: Election, arguments: Arguments) -> int:
     tell_aside(*unneeded_words(castings, sheets))
     if pending.stopping:
         tell_aside(f"Note: {pending.why_they_stop}; they are in no count.")
-    tell_aside(f"Next: {what_next(election, history, sheets, castings)}")
+    tell_next(election, sheets)
     return max(sheet.status for sheet in sheets.values())
 
 
@@ -87,30 +80,23 @@ def labels_asked_for(questions: Questions, label: str | None) -> Collection[str]
     return [label]
 
 
-def what_next(
-    election: Election, history: History, sheets: Mapping[str, Sheet], castings: Castings
-) -> str:
-    """What the secretary does with these sheets. Before the close they are no result yet."""
-    tied = {label: sheet for label, sheet in sheets.items() if sheet.winner is None}
-    cast = {label: castings[label] for label, sheet in sheets.items() if sheet.is_by_casting}
-    if tied:
-        ties = "; ".join(tie_in_words(label, sheet) for label, sheet in tied.items())
-        # what several ties need together has no names
-        names, *others = map(names_left, tied.values())
-        ways = (cast | dict.fromkeys(tied, name) for name in (["NAME"] if others else names))
-        step = f"{ties}; the holder of the casting vote chooses one of them: {' or '.join(publishing(election, way) for way in ways)}"
-    else:
-        step = publishing(election, cast)
-    if history.is_closed:
-        return step
-    return f"this is not the result yet: when the vote is over, run {election.command('close')}{'; now' if tied else ', then'} {step}"
+def tell_next(election: Election, sheets: Mapping[str, Sheet]) -> None:
+    """What comes after these sheets, which show ties before they are published, and casting votes
+    that the result does not have yet.
+    """
+    history = election.history()
+    due = [due for due in what_next(election, history) if due.step is not Step.COUNT]
+    if not history.is_closed:
+        tell_aside("This is not the result yet.")
+    elif due[0].step in (Step.PUBLISH, Step.TIE):
+        due[0] = due[0]._replace(questions=choices_in(sheets))
+    tell_aside(next_line(election, due))
 
 
-def names_left(sheet: Sheet) -> list[str]:
-    return [sheet.names[option] for option in sheet.left]
-
-
-def tie_in_words(label: str, sheet: Sheet) -> str:
-    outside = sheet.casting_outside
-    why = f"; {in_shell([sheet.names[outside]])} is not among them" if outside else ""
-    return f"{named(label)} is a tie between {in_shell(names_left(sheet))}{why}"
+def choices_in(sheets: Mapping[str, Sheet]) -> dict[str, Sequence[str]]:
+    """The options left at each question that is tied, or is not by a casting vote alone."""
+    return {
+        label: [sheet.names[option] for option in ([sheet.winner] if sheet.winner else sheet.left)]
+        for label, sheet in sheets.items()
+        if sheet.winner is None or sheet.is_by_casting
+    }

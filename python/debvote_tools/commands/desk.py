@@ -29,6 +29,7 @@ from debvote_tools.files import BALLOTS_LIMIT
 from debvote_tools.inbox import entering
 from debvote_tools.inbox.lines import Line, Names, lines_in
 from debvote_tools.inbox.vote import IN_ORDER, CheckedLine, Vote, change_words, summary
+from debvote_tools.outbox.steps import tell_next
 from debvote_tools.poll.plain_names import alike
 from debvote_tools.text.ballots import answers_text, ranks_by_label
 from debvote_tools.text.language import ENGLISH
@@ -258,7 +259,8 @@ def desk(election: Election, arguments: Arguments) -> None:
         cast(desk)
     except KeyboardInterrupt:
         tell("")
-    tell(f"This desk has entered {summary(desk.replies)}.", f"Next: {election.command('status')}")
+    tell(f"This desk has entered {summary(desk.replies)}.")
+    tell_next(election)
 
 
 def name_of_desk(text: str) -> str:

@@ -28,6 +28,7 @@ from debvote_tools.inbox.judging import (
 from debvote_tools.inbox.letter_lines import BallotLine
 from debvote_tools.inbox.letter_words import name_of, quoted_words, who_and_when, why
 from debvote_tools.inbox.lines import Line, lines_in
+from debvote_tools.outbox.steps import Step, next_line, what_next
 from debvote_tools.inbox.reasons import for_secretary
 from debvote_tools.inbox.rules import LetterCase, LetterOutcome, why_other_mark
 from debvote_tools.inbox.stopping import other_votes_words
@@ -117,14 +118,18 @@ def next_words(
     election: Election, pending: Sequence[LetterCase], shown: Sequence[LetterCase]
 ) -> Iterator[str]:
     """How many letters wait, and what is done with the first, which may be shown already."""
+    due = what_next(election, election.history())
     if not pending:
         yield "No letter waits."
-        yield f"Next: {election.command('status')}"
+        yield next_line(election, due)
         return
     waiting = [letter for letter in shown if letter.is_pending]
     command = election.command("held", str((waiting or pending)[0].number))
+    words = f"{command} {'with' if waiting else 'shows one;'} --enter enters its ballot, --as LINE the ballot that you type, --set-aside sets it aside"
     yield f"{letter_words.wait_words(len(pending))}."
-    yield f"Next: {command} {'with' if waiting else 'shows one;'} --enter enters its ballot, --as LINE the ballot that you type, --set-aside sets it aside"
+    # what has come too late may wait
+    is_next = due[0].step is Step.HELD
+    yield from [f"Next: {words}"] if is_next else [f"{words}.", next_line(election, due)]
 
 
 def demand_words(arguments: Arguments) -> bool:

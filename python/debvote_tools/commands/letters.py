@@ -31,6 +31,7 @@ from debvote_tools.outbox import letter_folder, smtp
 from debvote_tools.outbox.due import LettersDue, demand_due, is_present, letters_due
 from debvote_tools.outbox.reached import WAS_REFUSED, unreached_and_printed
 from debvote_tools.outbox.smtp import Server
+from debvote_tools.outbox.steps import Step, remembered, tell_next, words_of
 from debvote_tools.outbox.words import SUBJECTS
 from debvote_tools.poll.announced import demand_mail_address, demand_web_address
 from debvote_tools.text import times
@@ -124,6 +125,7 @@ def letters_of_kind(
     tell(*notes_on(due, {place: [*due.going_again, *due.new], **lost}))
     tell(*(sent_words(due, tried) if server else written_words(due, place, written, lost)))
     tell(*unreached_words(election))
+    tell_next(election)
     return exit_status(due, tried)
 
 
@@ -193,7 +195,10 @@ def send_ready(election: Election, sender: str, server: Server | None) -> Status
         tell(*notes_on(due, {place: due.new}))
         tell(*(f"{kind}: {line}" for line in sent_words(due, tried)))
         status = max(status, exit_status(due, tried))
-    tell(*unreached_words(election), *([] if is_sent or faults else [ALL_TAKEN]))
+    tell(*unreached_words(election))
+    if not (is_sent or faults or words_of(election, Step.RECEIPTS, Step.LETTERS)):
+        tell(ALL_TAKEN)
+    tell_next(election)
     stop_at(faults)
     return status
 
@@ -262,11 +267,9 @@ def written_words(
         if number := sum(bool(letter.address) for letter in letters):
             yield f"Wrote {count_of(number, 'earlier letter')}, since the folder was not there: {folder}"
     if written:
-        host = [] if remembered(due.history) else ["--server", "HOST"]
         new = sum(bool(letter.address) for letter in due.new)
         of_them = "" if new == written else f", {new or 'none'} of them new"
         yield f"Wrote {count_of(written, 'letter')}{of_them}: {place}"
-        yield f"Next: send them with your mail program, or by {due.election.command('letters', due.kind, '--send', *host)}"
     else:
         yield "No other letter is to be sent." if lost else "There is no letter to send."
 
@@ -280,15 +283,15 @@ def sent_words(due: LettersDue, tried: Sequence[OutgoingLetter]) -> Iterator[str
     for letter in refused:
         yield f"Refused: {due.electors[letter.elector].name}, {letter.address}: {shown_text(letter.reply)}"
     if any(map(due.can_be_sent, refused)):
-        yield f"Next: in a quarter of an hour, or with corrected addresses, try again: {due.election.command('letters', due.kind, '--send')}"
+        yield "Try again in a quarter of an hour, or with corrected addresses."
 
 
 def unreached_words(election: Election) -> Iterator[str]:
     """Names those whom the call has not reached, until a letter to them is taken."""
     unreached, _ = unreached_and_printed(election, election.history())
     if names := [
-        f"{elector.name} ({why}{f': {shown_text(reply)}' if why == WAS_REFUSED else ''})"
-        for elector, why, reply in unreached
+        f"{one.elector.name} ({one.why}{f': {shown_text(one.reply)}' if one.why == WAS_REFUSED else ''})"
+        for one in unreached
     ]:
         yield f"Not reached by the call: {listed(names, MOST)}"
 
@@ -328,14 +331,6 @@ def sender_of(history: History, arguments: Arguments) -> str:
     if sender := arguments.sender or history.announced("to"):
         return str(sender)
     raise bad_words("--from", "the call names no address", "give the sender's address with it")
-
-
-def remembered(history: History) -> Detail | None:
-    """The detail of the last act of a letter that was sent, which names the server; None since a
-    move: a copy for a rehearsal sends no real letters.
-    """
-    acts = history.named("letter sent", "moved")
-    return acts[-1].detail if acts and acts[-1].name == "letter sent" else None
 
 
 def server_of(history: History, arguments: Arguments) -> Server:

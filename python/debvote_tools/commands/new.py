@@ -14,6 +14,7 @@ from debvote_tools.cli.console import tell
 from debvote_tools.cli.faults import bad_words
 from debvote_tools.election import MEMBERS_FILE, POLLS, Election
 from debvote_tools.files import uninterrupted, whole_folder, write_whole
+from debvote_tools.outbox.steps import draft_words
 from debvote_tools.poll.questions import LABELS, POLL_FILE, TITLE_FILE
 from debvote_tools.text.language import ENGLISH, LANGUAGES
 
@@ -60,10 +61,7 @@ def new(election: Election, arguments: Arguments) -> None:
         )
         if arguments.language != ENGLISH.code:
             tell(f"Pages and letters for electors will be in {LANGUAGES[arguments.language]}.")
-        tell(
-            f"Next: cd {shlex.quote(str(folder))}, write the members into {MEMBERS_FILE} with a spreadsheet, "
-            f"fill in {files} with an editor, then run: debvote-election roll"
-        )
+        tell(f"Next: cd {shlex.quote(str(folder))}, {draft_words(files, 'debvote-election roll')}")
 
 
 def new_polls(count: int) -> dict[str, bytes]:

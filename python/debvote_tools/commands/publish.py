@@ -2,8 +2,6 @@
 
 import datetime
 import functools
-import itertools
-import os
 import pathlib
 from collections.abc import Iterable, Mapping
 
@@ -36,18 +34,19 @@ from debvote_tools.files import (
     write_made,
 )
 from debvote_tools.inbox.stopping import Pending, pending_letters
+from debvote_tools.outbox.steps import tell_next
 from debvote_tools.poll.questions import Questions
 from debvote_tools.result import folder, publication
 from debvote_tools.result.casting import (
     CASTING,
     Castings,
     castings_in,
-    publishing,
     unneeded_words,
 )
 from debvote_tools.result.data import outcome_as_data
 from debvote_tools.result.facts import Outcome, PublishedWords, QuestionFacts, VoteFacts
 from debvote_tools.result.file_names import BALLOTS, CHECKSUMS, PAGE, POLL
+from debvote_tools.result.places import is_free, is_publication, other_place
 from debvote_tools.text import times
 from debvote_tools.text.language import LANGUAGES
 
@@ -125,6 +124,7 @@ def publish(election: Election, arguments: Arguments) -> int:
     tell_published(election, filled.outcomes, target, is_new=is_new)
     sheets = {label: outcome.sheet for label, outcome in filled.outcomes.items()}
     tell_aside(*unneeded_words(words.castings, sheets))
+    tell_next(election)
     return max(sheet.status for sheet in sheets.values())
 
 
@@ -226,36 +226,19 @@ def put_in_place(
 def tell_published(
     election: Election, outcomes: Mapping[str, Outcome], target: pathlib.Path, *, is_new: bool
 ) -> None:
-    """Tells what was published, and what comes next."""
+    """Tells what was published, and writes its letters."""
     as_before = "" if is_new else ", as it was published before; nothing was changed in the book"
     for label, outcome in outcomes.items():
         tell(f"{label and f'{label}: '}{outcome.sheet.last_line}", outcome.verified)
     tell(f"Made the folder {target}{as_before}.")
     history = election.history()
-    if not history.is_closed:
-        # where the page of the vote is, people still vote
-        tell(
-            f"Next: {election.command('close')}, then {election.command('publish', str(other_place(target)))}"
-        )
-        return
-    ready = list[str]()
-    if history.announced("to") and history.announced("at"):
+    if history.is_closed and history.announced("at"):
         # what writes letters takes a while to be imported
         from debvote_tools.commands.letters import write_ready
 
-        ready = write_ready(election, "result")
-        tell(*ready)
-    if tied := [label for label, outcome in outcomes.items() if outcome.sheet.winner is None]:
-        # the next result has the casting votes of its own command alone
-        castings = history.publications[-1].detail["casting"] | dict.fromkeys(tied, "NAME")
-        tell(
-            f"Next: it is a tie: ask for the casting vote, and then give its option, its holder and its day: {publishing(election, castings)}"
-        )
-    else:
-        letter = election.path(LETTERS) / RESULT_LETTER
-        sending = election.to_all("result", letter, is_ready=bool(ready))
-        tell(f"Next: put the folder {target} on the web site as it is; then {sending}")
-    if history.announced("box"):
+        tell(*write_ready(election, "result"))
+    # before the close people still vote where the page of the vote is
+    if history.is_closed and history.announced("box"):
         tell(
             f"Where it takes the place of the page, remove {SCRIPT} and {records_file(queries.sealed(election.book, BOX_KEY))}."
         )
@@ -270,27 +253,19 @@ def demand_place(election: Election, target_folder: pathlib.Path, history: Histo
     place = real_place(target_folder)
     folder.demand_outside(target_folder)
     election.demand_outside(target_folder, CALL, LETTERS, PRIVATE)
-    if folder.is_free(place):
+    if is_free(place):
         return
     sums = [act.detail["checksums"][CHECKSUMS] for act in history.publications][-2:]
     killed = left_beside(place, folder.BESIDE_PLACE)
-    if not any(folder.is_publication(beside, sum) for sum in sums[-1:] for beside in killed):
+    if not any(is_publication(beside, sum) for sum in sums[-1:] for beside in killed):
         sums = sums[-1:]
-    if any(folder.is_publication(place, sum) for sum in sums):
+    if any(is_publication(place, sum) for sum in sums):
         return
     raise folder.in_use(
         target_folder,
         "what this election has published last, since its last close",
         f"name another folder, as {other_place(target_folder)}: no result is replaced by a later one",
     )
-
-
-def other_place(target_folder: pathlib.Path) -> pathlib.Path:
-    """Where a result can be that may not replace the one in this folder."""
-    places = (target_folder, real_place(target_folder), pathlib.Path(RESULT))
-    named = next(place for place in places if place.name not in ("", ".."))
-    others = (named.with_name(f"{named.name}-{number}") for number in itertools.count(2))
-    return next(other for other in others if not os.path.lexists(other))
 
 
 class WouldDiffer(Fault):

@@ -11,7 +11,7 @@ from debvote_tools.election import Election, History
 from debvote_tools.grouping import grouped
 from debvote_tools.inbox.taking import MOST_NAMED
 from debvote_tools.inbox.vote import Vote
-from debvote_tools.text.times import now
+from debvote_tools.outbox.steps import tell_next
 
 
 class Arguments(Acting):
@@ -24,14 +24,13 @@ def reopen(election: Election, arguments: Arguments) -> None:
     book = election.book_for(arguments)
     carried_out(book, lambda: what_is_reopened(election, arguments, because))
     history = election.history()
-    early = ["--early"] if history.ends_after(now()) else []
     tell(
         f"The vote is open again; the close at {act_time(history.closes[-1].time)} stays in the log and on the result page.",
         *late_words(Vote(election), history),
         "Of new ballots only those that arrived before the first close count: add and desk ask.",
         "What is late stays late: if it arrived before, enter it again, with add FILE --came-before-close yes or at a desk.",
-        f"Next: {election.command('add', 'FILE')}, then {election.command('close', *early)}",
     )
+    tell_next(election)
 
 
 def what_is_reopened(election: Election, arguments: Arguments, because: str) -> Change:

@@ -17,10 +17,10 @@ from debvote_tools.election import BOX_SCRIPT, CALL, MEMBERS_FILE, PRIVATE, Elec
 from debvote_tools.files import PUBLIC, write_made
 from debvote_tools.grouping import several
 from debvote_tools.inbox.lines import Names
+from debvote_tools.outbox.steps import tell_next
 from debvote_tools.poll.plain_names import ELECTOR_LIMIT, alike, similar_names
 from debvote_tools.poll.sealed import new_own_mark
 from debvote_tools.text.addresses import address_in, address_key
-from debvote_tools.text import times
 from debvote_tools.text.language import Language
 
 # `Eve & Dan`, `Eve und Dan`, `Eve/Dan`
@@ -47,7 +47,6 @@ def roll(election: Election, arguments: Arguments) -> None:
         raise Fault(None, words, "for another roll, begin anew in another folder")
     roll = read_roll(election, history)
     changes = dict.fromkeys(linked_anew(history, roll, arguments.new_link), "a new link")
-    after = election.command("check")
     if history.call is None:
         keep_electors(book, roll, history.last.number)
         tell(*roll_in_words(roll, election.language))
@@ -63,18 +62,7 @@ def roll(election: Election, arguments: Arguments) -> None:
             if arguments.yes or is_agreed(member, words)
         }
         change_addresses(election, history, agreed, arguments.new_link)
-        after = election.command("status")
-        if agreed and not history.is_over(times.now()):
-            after = next_letters(election, history)
-    tell(f"Next: {after}")
-
-
-def next_letters(election: Election, history: History) -> str:
-    """What is done about new addresses and links while people vote."""
-    script = election.path(CALL) / SCRIPT
-    upload = f"upload {script} again, since these electors have new links; then "
-    write = f"{election.command('letters', 'call')}, for the new addresses"
-    return f"{upload if history.announced('box') else ''}{write}"
+    tell_next(election)
 
 
 def linked_anew(history: History, roll: Roll, name: str | None) -> list[Member]:

@@ -8,7 +8,7 @@ from debvote_tools.book import queries
 from debvote_tools.book.book import Book
 from debvote_tools.book.queries import Envelope
 from debvote_tools.call.members import elector_in_words
-from debvote_tools.cli.arguments import Options, flag
+from debvote_tools.cli.arguments import Options, flag, option
 from debvote_tools.cli.console import (
     act_time,
     count_of,
@@ -18,13 +18,14 @@ from debvote_tools.cli.console import (
     tell,
     wrapped,
 )
-from debvote_tools.cli.faults import Fault
-from debvote_tools.election import LETTERS, RESULT_LETTER, Election, History
+from debvote_tools.cli.faults import Fault, stop_at
+from debvote_tools.election import Election, History
 from debvote_tools.inbox import letter_words
 from debvote_tools.inbox.asked import asked_last, asked_words, with_lost_records
 from debvote_tools.inbox.stopping import Pending, pending_letters, taken_out_words
 from debvote_tools.inbox.vote import envelope_words
 from debvote_tools.outbox.reached import unreached_and_printed
+from debvote_tools.outbox.steps import SAID, in_words, tell_next, what_next
 from debvote_tools.text import times
 from debvote_tools.text.ballots import ranks_by_label
 
@@ -38,10 +39,21 @@ class Arguments(Options):
     electors: bool = flag(
         "List the electors instead: the name on the roll, the real name, the addresses"
     )
+    done: str | None = option(
+        None,
+        "Note on this computer that something is done until now: receipts are not needed, the page is uploaded, letters are "
+        "sent by your mail program, those whom the call had not reached know of it, there is a backup",
+        choices=[step.value for step in SAID],
+    )
 
 
 def status(election: Election, arguments: Arguments) -> None:
     """Show how far the election is: lines, ballots, electors without a ballot, refused lines."""
+    if arguments.done:
+        stop_at(election.book.doubts())
+        election.book.note_done(arguments.done, election.book.last_number())
+        tell_next(election)
+        return
     if arguments.electors:
         demand_names(election)
         tell(*map(elector_in_words, queries.electors(election.book)))
@@ -86,7 +98,7 @@ def state_of(election: Election, history: History, counting: Mapping[str, str]) 
         else [name for name in electors if name not in counting],
         "box": asked_last(election, history),
         "lost": with_lost_records(election, history),
-        "not_reached": {elector.name: why for elector, why, _ in unreached},
+        "not_reached": {one.elector.name: one.why for one in unreached},
         "printed": printed,
         "act": history.last.number,
         "digest": history.last.digest,
@@ -138,10 +150,17 @@ def stage_words(election: Election, history: History, state: State) -> Iterator[
     if history.is_reopened:
         yield f"Reopened: at {act_time(history.named('reopen')[-1].time)}"
     quorums = history.call.detail["quorum_votes"]
+    of_each = {
+        label: quorum_words(poll.quorum, quorums[label]) for label, poll in questions.items()
+    }
+    are_equal = len({*of_each.values()}) == 1
     for label, poll in questions.items():
         if label:
             yield f"Question {label}: {poll.name}: {count_of(state['questions'][label]['voters'], 'elector')} answered"
-        yield f"{'  ' if label else ''}{quorum_words(poll.quorum, quorums[label])}"
+        if not are_equal:
+            yield f"  {of_each[label]}"
+    if are_equal:
+        yield next(iter(of_each.values()))
 
 
 def state_words(
@@ -174,23 +193,15 @@ def state_words(
     for reason in dict.fromkeys(state["not_reached"].values()):
         names = [name for name, why in state["not_reached"].items() if why == reason]
         yield from named(f"Not reached by the call: {reason}", names)
-    yield from named("Get the call printed", state["printed"])
+    # who has voted knows of the vote
+    silent = [name for name in state["printed"] if name in state["without_ballot"]]
+    yield from named("Get the call printed", silent)
     yield f"Last act: {state['act']}, digest {state['digest']}"
-    yield f"Next: {what_next(election, history, state)}"
+    first, *others = what_next(election, history)
+    yield f"Next: {in_words(election, first)}"
+    yield from (f"Then: {in_words(election, one)}" for one in others)
 
 
 def named(what: str, names: list[str] | None) -> Iterator[str]:
     if names:
         yield from (f"{what} ({len(names)}):", wrapped(names))
-
-
-def what_next(election: Election, history: History, state: State) -> str:
-    if state["stage"] == "new":
-        return f"{election.command('roll')}, then {election.command('check')}, then {election.command('call')}"
-    if state["stage"] == "called":
-        return f"add the ballots as they come: {election.command('add', 'FILE')}, or {election.command('desk')}; when the vote is over: {election.command('close')}"
-    if state["stage"] == "published" and not state["stopping"]:
-        return f"put the published folder on the web site as it is; then {election.to_all('result', election.path(LETTERS) / RESULT_LETTER)}"
-    # what stops a count goes first
-    first = f"{election.command('held')}, then " if state["stopping"] else ""
-    return f"{first}{election.command('count')}, then {election.command('publish')}"

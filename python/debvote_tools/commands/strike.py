@@ -14,6 +14,7 @@ from debvote_tools.inbox import letter_words
 from debvote_tools.inbox.judging import letters_now
 from debvote_tools.inbox.lines import name_in
 from debvote_tools.inbox.vote import Vote
+from debvote_tools.outbox.steps import tell_next
 
 # what can be a code of the roll or half of one, as if it was typed with a gap
 LIKE_A_CODE = re.compile(rb"[0-9A-Za-z]{5,}")
@@ -45,7 +46,7 @@ def strike(election: Election, arguments: Arguments) -> None:
         tell(vote.with_answers(current, answers) if answers else f"{current}: none")
     tell(*letter_words.judged_anew(judged_before, letters_now(vote), change.letters))
     tell("A strike cannot be undone: if it was a mistake, enter the line again.")
-    tell(f"Next: {election.command('status')}")
+    tell_next(election)
 
 
 def what_is_struck(vote: Vote, arguments: Arguments, because: str) -> Change:

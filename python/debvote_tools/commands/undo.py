@@ -13,6 +13,7 @@ from debvote_tools.election import Election, History
 from debvote_tools.inbox import letter_words
 from debvote_tools.inbox.judging import letters_now
 from debvote_tools.inbox.vote import Vote, envelope_words, standing_words
+from debvote_tools.outbox.steps import tell_next
 
 
 class Arguments(Acting):
@@ -40,12 +41,9 @@ def undo(election: Election, arguments: Arguments) -> None:
     # the letters whose own ballots it was are told apart
     judged_after = letters_now(vote)
     tell(*letter_words.judged_anew(judged_before, judged_after, change.letters))
-    following = election.command("status")
     if queries.last_entering_act(book):
-        following += f"; another {election.command('undo')} takes back the act before"
-    if change.letters:
-        following += f"; {election.command('held')} lists these letters"
-    tell(f"Next: {following}")
+        tell(f"Another {election.command('undo')} takes back the act before.")
+    tell_next(election)
 
 
 def what(act: DoneAct, numbers: Sequence[int]) -> str:

@@ -1,10 +1,11 @@
 """What came from each elector, and what became of it, by all lines and letters as they are now."""
 
 import datetime
-from collections.abc import Iterator
+from collections.abc import Iterable, Iterator, Sequence
 from typing import NamedTuple
 
 from debvote_tools.book import queries
+from debvote_tools.book.outgoing import About
 from debvote_tools.book.queries import Elector, Envelope
 from debvote_tools.election import Election, History
 from debvote_tools.grouping import grouped
@@ -110,3 +111,47 @@ def fates_of_letter(
             is_own=name in letter.sharing,
             names_them=name in letter.electors,
         )
+
+
+# ---- what electors are told
+def is_told(fate: Fate) -> bool:
+    """Whether an elector is told of something that came. A copy is the letter that it copies. One
+    from which ballots were entered is told to those whom it names: `told_of` leaves out those who
+    have one of these. A program that answers by itself would answer; and a letter of ours that came
+    back has the name of its elector.
+    """
+    letter = fate.letter
+    if letter is None:
+        return True
+    if letter.is_automatic and (fate.is_own or not letter.ballots):
+        return False
+    if fate.became is LetterOutcome.ENTERED:
+        return fate.names_them
+    return fate.became not in (LetterOutcome.COPY, LetterOutcome.OTHER_VOTE)
+
+
+def told_of(fates: Sequence[Fate]) -> dict[About, Fate]:
+    """What an elector is told of, in its order. Of a letter from which ballots of theirs were
+    entered only these are told, also if they were struck or taken back. Of another letter one
+    receipt tells, and none anew if the secretary decides of it later.
+    """
+    entered = {fate.envelope.letter for fate in fates if fate.envelope}
+    told: dict[About, Fate] = {}
+    for fate in filter(is_told, fates):
+        if fate.envelope is not None:
+            told["envelope", fate.envelope.number, fate.envelope.is_struck] = fate
+        elif fate.letter is not None and fate.letter.number not in entered:
+            told["letter", fate.letter.number, False] = fate
+    return told
+
+
+def letters_to_tell(cases: Iterable[LetterCase]) -> Iterator[tuple[str, LetterCase]]:
+    """Letters with each elector who is told of them, unless there are ballots of theirs in their
+    place.
+    """
+    for letter in cases:
+        for name, fate in fates_of_letter(
+            letter, letter.circumstances.now, is_of_all_senders=False
+        ):
+            if is_told(fate):
+                yield name, letter

@@ -8,14 +8,19 @@ What judges letters takes a while to be imported, so it is only if some came.
 
 import collections
 import dataclasses
-from collections.abc import Iterable, Iterator, Sequence
+from collections.abc import Callable, Iterable, Iterator, Sequence
+from typing import TYPE_CHECKING
 
 from debvote_tools.book import queries
-from debvote_tools.book.book import DoneAct
+from debvote_tools.book.book import Book, DoneAct
+from debvote_tools.book.queries import KeptLetter
 from debvote_tools.cli.console import in_runs
 from debvote_tools.cli.faults import Fault
 from debvote_tools.election import Election, History
 from debvote_tools.inbox.asked import CLOSES, unasked_fault, with_lost_records
+
+if TYPE_CHECKING:
+    from debvote_tools.inbox.rules import LetterCase
 
 # the kinds of what stops, as the page names the doubts about them, but for what nobody can open
 LETTERS = "letters left"
@@ -86,17 +91,30 @@ def letters_cure(election: Election, step: str, *, is_closed: bool) -> str:
 
 
 def pending_letters(election: Election, history: History) -> Pending:
+    return pending_of(history, cases_of(election, history, queries.may_wait))
+
+
+def cases_of(
+    election: Election, history: History, chosen: Callable[[Book], list[KeptLetter]]
+) -> list["LetterCase"]:
+    """The letters that a query chooses, as they are judged now."""
     # where letters have to be signed, what was signed says which are copies, which the book may not
     # have known when they came
     is_signed = history.announced("signed")
     book = election.book
-    if not (kept := queries.kept_letters(book) if is_signed else queries.may_wait(book)):
-        return Pending()
+    if not (kept := queries.kept_letters(book) if is_signed else chosen(book)):
+        return []
     from debvote_tools.inbox.judging import judged
-    from debvote_tools.inbox.rules import LetterOutcome
     from debvote_tools.inbox.vote import Vote
 
-    letters = judged(Vote(election), history, kept)
+    return judged(Vote(election), history, kept)
+
+
+def pending_of(history: History, letters: Sequence["LetterCase"]) -> Pending:
+    if not letters:
+        return Pending()
+    from debvote_tools.inbox.rules import LetterOutcome
+
     pending = [letter for letter in letters if letter.is_pending]
     arrived_in_time = sorted(letter.number for letter in pending if letter.arrived_in_time)
     # what a close or a publication left so stops nothing again

@@ -14,7 +14,6 @@ from debvote_tools.book.change import carried_out
 from debvote_tools.book.queries import NewEnvelope
 from debvote_tools.cli.console import count_of, is_terminal, listed, shown_text, tell
 from debvote_tools.cli.faults import Fault
-from debvote_tools.election import CALL, Election, History
 from debvote_tools.inbox import letter_words
 from debvote_tools.inbox.given_files import safe
 from debvote_tools.inbox.entering import Entry
@@ -25,7 +24,6 @@ from debvote_tools.inbox.box_records import Brought, asked_box, opened, unopened
 from debvote_tools.inbox.rules import LetterCase, LetterOutcome
 from debvote_tools.inbox.vote import Vote
 from debvote_tools.inbox.stopping import other_votes_words
-from debvote_tools.text import times
 
 # how many letters with later ones are named
 MOST_NAMED = 20
@@ -66,7 +64,8 @@ def take_letters(
     if brought.has_unopened:
         # now who has a later ballot need not vote again
         tell(unopened_words(vote))
-    tell_next(change)
+    if change.letters:
+        tell(f"{vote.election.command('undo')} takes back what was entered last.")
 
 
 # ---- keeping
@@ -204,25 +203,3 @@ def what_goes_in(
         cases=cases,
         own=own,
     )
-
-
-def tell_next(change: GoingIn) -> None:
-    election = change.vote.election
-    history = election.history()
-    following = next_step(election, history)
-    if with_outcome(change.cases, LetterOutcome.WAITS):
-        following = f"{election.command('held')}, which lists the letters that wait"
-    if not history.is_closed and queries.last_entering_act(election.book):
-        following += f"; {election.command('undo')} takes back what was entered last"
-    tell(f"Next: {following}")
-
-
-def next_step(election: Election, history: History) -> str:
-    """What comes after an `add` where no letter waits."""
-    if history.is_closed:
-        return election.command("count")
-    if history.is_over(times.now()):
-        return election.command("close")
-    if history.announced("box") and not history.is_call_written:
-        return election.to_all("call", election.path(CALL) / "call.txt")
-    return election.command("status")

@@ -14,7 +14,7 @@ from debvote_tools.cli.faults import Fault, bad_words, stop_at
 from debvote_tools.election import LETTERS, RESULT_LETTER, Election, History
 from debvote_tools.inbox.asked import ASKING, unasked_fault, with_lost_records
 from debvote_tools.inbox.asking import ask_for
-from debvote_tools.inbox.fates import COUNTS, NOBODY, Fate, fates_of
+from debvote_tools.inbox.fates import COUNTS, NOBODY, Fate, fates_of, told_of
 from debvote_tools.inbox.rules import LetterOutcome
 from debvote_tools.inbox.stopping import pending_letters, what_stops
 from debvote_tools.outbox.reached import NO_LETTER, page_since, unreached, unreached_and_printed
@@ -194,7 +194,7 @@ def not_through(
     since a letter came back or was refused.
     """
     not_reached, _ = unreached_and_printed(election, history)
-    tried = {elector.number for elector, why, _ in not_reached if why != NO_LETTER}
+    tried = {one.elector.number for one in not_reached if one.why != NO_LETTER}
     return {
         letter.elector: letter.message_id
         for letter in letters
@@ -286,7 +286,7 @@ def calls_due(run: Run) -> LettersDue:
     """The call to each elector; after an extension that, to those whom the call has reached."""
     last = run.history.since_call("call", "extend")[-1].number
     not_reached = unreached(run.election, run.history, without=last)
-    had_call = run.electors.keys() - {elector.number for elector, _, _ in not_reached}
+    had_call = run.electors.keys() - {one.elector.number for one in not_reached}
     call = run.election.called(run.history)
     called_at = outgoing.call_addresses(run.election.book, call.number)
     return to_each(
@@ -455,37 +455,6 @@ OF_KINDS = {
 
 
 # ---- what electors are told
-def is_told(fate: Fate) -> bool:
-    """Whether an elector is told of something that came. A copy is the letter that it copies. One
-    from which ballots were entered is told to those whom it names: `told_of` leaves out those who
-    have one of these. A program that answers by itself would answer; and a letter of ours that came
-    back has the name of its elector.
-    """
-    letter = fate.letter
-    if letter is None:
-        return True
-    if letter.is_automatic and (fate.is_own or not letter.ballots):
-        return False
-    if fate.became is LetterOutcome.ENTERED:
-        return fate.names_them
-    return fate.became not in (LetterOutcome.COPY, LetterOutcome.OTHER_VOTE)
-
-
-def told_of(fates: Sequence[Fate]) -> dict[About, Fate]:
-    """What an elector is told of, in its order. Of a letter from which ballots of theirs were
-    entered only these are told, also if they were struck or taken back. Of another letter one
-    receipt tells, and none anew if the secretary decides of it later.
-    """
-    entered = {fate.envelope.letter for fate in fates if fate.envelope}
-    told: dict[About, Fate] = {}
-    for fate in filter(is_told, fates):
-        if fate.envelope is not None:
-            told["envelope", fate.envelope.number, fate.envelope.is_struck] = fate
-        elif fate.letter is not None and fate.letter.number not in entered:
-            told["letter", fate.letter.number, False] = fate
-    return told
-
-
 def about_now(about: Sequence[About], told: Mapping[About, Fate]) -> list[About]:
     """What a receipt is about, as it is now: a ballot may have been struck since it was written."""
     numbers = {key[:2] for key in about}

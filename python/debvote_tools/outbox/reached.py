@@ -4,6 +4,8 @@ It is the one answer for `status`, for each kind of letters and for what a lette
 says. `status` asks it, so nothing is imported here that judges letters or makes pages.
 """
 
+from typing import NamedTuple
+
 from debvote_tools.book import outgoing, queries
 from debvote_tools.book.queries import Elector
 from debvote_tools.election import Election, History
@@ -12,8 +14,16 @@ from debvote_tools.text.addresses import address_in
 NO_LETTER = "no letter"
 WAS_REFUSED = "refused"
 
-# an elector, why the call has not reached them, by what came last, and what the server said
-Unreached = tuple[Elector, str, str]
+
+class Unreached(NamedTuple):
+    """An elector, why the call has not reached them, by what came last, what the server said, and by
+    which act that is known.
+    """
+
+    elector: Elector
+    why: str
+    reply: str
+    act: int
 
 
 def page_since(history: History) -> int:
@@ -40,7 +50,7 @@ def unreached(election: Election, history: History, *, without: int = 0) -> list
     electors = {elector.number: elector for elector in queries.electors(election.book)}
     call = election.called(history)
     rows = outgoing.unreached(election.book, page_since(history), call.number, without)
-    return [(electors[number], why, reply) for number, why, reply in rows]
+    return [Unreached(electors[number], why, reply, act) for number, why, reply, act in rows]
 
 
 def unreached_and_printed(
@@ -53,5 +63,5 @@ def unreached_and_printed(
         return [], []
     electors = queries.electors(election.book)
     printed = [elector.name for elector in electors if not address_in(elector.addresses)]
-    by_mail = [row for row in unreached(election, history) if address_in(row[0].addresses)]
+    by_mail = [row for row in unreached(election, history) if address_in(row.elector.addresses)]
     return by_mail, printed

@@ -58,9 +58,9 @@ def named(label: str) -> str:
     return f"question {label}" if label else "it"
 
 
-def publishing(election: Election, castings: Castings) -> str:
-    """The command that publishes a result, with the casting votes if there are any. One that was
-    published before keeps its holder and its day; those of others the secretary writes.
+def publishing(election: Election, castings: Castings, *place: str) -> str:
+    """The command that publishes a result at a place, with the casting votes if there are any. One
+    that was published before keeps its holder and its day; those of others the secretary writes.
     """
     details = [act.detail for act in election.history().named("publish")]
     words = list[str]()
@@ -73,7 +73,7 @@ def publishing(election: Election, castings: Castings) -> str:
                 day = detail["words"]["cast_on"][label]
         words += option_words("--casting", f"{label and f'{label}='}{option}")
         words += [*option_words("--cast-by", holder), "--cast-on", day]
-    return election.command("publish", *words)
+    return election.command("publish", *words, *place)
 
 
 def bad_casting(text: str, words: str, cure: str) -> Fault:

@@ -16,7 +16,7 @@ from debvote_tools.files import BALLOTS_LIMIT, POLL_LIMIT, read_at_most, sha256_
 from debvote_tools.poll.plain_names import bad_options, bad_title
 from debvote_tools.poll.questions import Questions
 from debvote_tools.poll.sealed import KEYS, REQUIRED, SealedPoll, poll_of
-from debvote_tools.result import folder
+from debvote_tools.result import folder, places
 from debvote_tools.result.facts import PublishedWords, QuestionFacts, VoteFacts
 from debvote_tools.text.language import ENGLISH, LANGUAGES, language_of
 
@@ -59,7 +59,7 @@ def main(program_folder: pathlib.Path, given: Sequence[str] | None = None) -> in
     target_folder = pathlib.Path(arguments.target)
     try:
         folder.demand_outside(target_folder)
-        if not folder.is_free(target_folder):
+        if not places.is_free(target_folder):
             raise folder.in_use(target_folder, "an empty folder", "name another folder")
         facts = facts_of(arguments, program_folder)
         with folder.beside(target_folder) as new:

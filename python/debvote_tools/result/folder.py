@@ -6,7 +6,6 @@ For each question debvote is started at most six times, in a secret vote four ti
 import contextlib
 import dataclasses
 import itertools
-import os
 import pathlib
 import runpy
 import shutil
@@ -98,36 +97,12 @@ class NewFolder:
         remove_left(place, BESIDE_PLACE)
 
 
-def is_free(target_folder: pathlib.Path) -> bool:
-    """Whether nothing is there, or an empty folder."""
-    place = real_place(target_folder)
-    return not os.path.lexists(place) or (place.is_dir() and not os.listdir(place))
-
-
 def demand_outside(target_folder: pathlib.Path) -> None:
     """Stops at a place within a published folder, or that of a call, which stays as it is."""
     for above in real_place(target_folder).parents:
         if all((above / name).is_file() for name in (CHECKSUMS, PAGE)):
             words = f"it would be in {above}, whose files are published as they are"
             raise bad_words(target_folder, words, "name a folder outside of it")
-
-
-def is_publication(folder: pathlib.Path, checksum: str) -> bool:
-    """Whether a folder has the SHA256SUMS of this checksum, and beside it only files that are as
-    they stand there.
-    """
-    try:
-        data = (folder / CHECKSUMS).read_bytes()
-        if sha256_of(data) != checksum:
-            return False
-        lines = (line.split("  ") for line in data.decode().splitlines())
-        listed = {folder / name: listed_sum for listed_sum, name in lines}
-        # what has a file of several questions below it is a folder
-        above = {parent for file in listed for parent in file.parents}
-        others = (file for file in folder.rglob("*") if file not in (folder / CHECKSUMS, *above))
-        return all(listed.get(file) == sha256_of(file.read_bytes()) for file in others)
-    except OSError:
-        return False
 
 
 def in_use(target_folder: pathlib.Path, words: str, cure: str) -> Fault:
