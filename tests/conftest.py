@@ -69,7 +69,7 @@ def pytest_runtest_protocol() -> Iterator[None]:
     """What a command sets for its process, such as the zone of times, a test that calls its functions leaves to no other test."""
     before = [
         (variable, variable.get())
-        for variable in (console.ZONE, console.LEAVING_OUT, console.FOR_TERMINALS)
+        for variable in (console.ZONE, console.LEAVING_OUT, console.WHOSE)
     ]
     yield
     for variable, value in before:

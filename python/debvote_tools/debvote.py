@@ -42,8 +42,10 @@ class Finding(NamedTuple):
         return f"{self.said}{question}{self.remark}"
 
     @property
-    def verdict(self) -> str:
-        """What the book keeps of it: nothing that depends on other lines."""
+    def answer(self) -> str:
+        """What the book keeps of it, the verdict and the reason: nothing that depends on other
+        lines.
+        """
         return f"{self.word}: {self._replace(remark='').hint}"
 
 

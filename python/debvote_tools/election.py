@@ -11,7 +11,7 @@ from typing import Any, Literal, NamedTuple
 from debvote_tools.book import queries
 from debvote_tools.book.book import BOOK_FILE, ActName, Book, DoneAct, damaged, from_text, open_book
 from debvote_tools.cli.arguments import Acting, demand_reason
-from debvote_tools.cli.console import FOR_TERMINALS, ZONE, tell_aside
+from debvote_tools.cli.console import WHOSE, ZONE, tell_aside
 from debvote_tools.cli.faults import NOTHING_CHANGED, Fault, Status, bad_words, stop_at
 from debvote_tools.debvote import Debvote
 from debvote_tools.files import real_place
@@ -282,7 +282,8 @@ class Election:
     @property
     def done(self) -> str:
         """The acts of this run, each as `act 7 (add)`; empty if it has done none."""
-        acts = self.opened.own_acts if "opened" in vars(self) else []
+        own = self.opened.own_acts if "opened" in vars(self) else {}
+        acts = [f"act {number} ({name})" for number, name in own.items()]
         if len(acts) > 1:
             return f"{len(acts)} acts were done, the last is {acts[-1]}"
         return "".join(f"{act} was done" for act in acts)
@@ -302,7 +303,10 @@ class Election:
         """
         history = History(self.book.acts())
         ZONE.set(history.zone)
-        FOR_TERMINALS.set(history.is_secret_by_click)
+        has_names = history.call and queries.has_sealed(
+            self.book, POLL_WITH_NAMES, history.call.number
+        )
+        WHOSE.set(functools.partial(queries.whose, self.book) if has_names else None)
         return history
 
     def sealed(self, call: DoneAct | None = None) -> Sealed:

@@ -278,7 +278,7 @@ class BoxElectionTest(elections.ElectionTest):
 
     def standing(self) -> dict[str, str]:
         """The ballots that count, by name."""
-        ended = self.done("export", self.scratch / f"export-{next(self.numbers)}")
+        ended = self.done("export", "--yes", self.scratch / f"export-{next(self.numbers)}")
         folder = ended.output.split("Made the folder ")[1].split(":")[0]
         lines = (pathlib.Path(folder) / "ballots.txt").read_text().splitlines()
         return dict(line.split(" ", 1) for line in lines)

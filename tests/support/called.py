@@ -247,7 +247,7 @@ class LettersTest(CalledTest):
         """What came in time, and what came late, as `export` writes it."""
         out = self.scratch / "out"
         shutil.rmtree(out, ignore_errors=True)
-        self.told("export", out)
+        self.told("export", "--yes", out)
         return (out / "ballots.txt").read_text(), (out / "late.txt").read_text()
 
     def stands(self, name: str) -> str:

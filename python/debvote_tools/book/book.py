@@ -162,9 +162,9 @@ class Book:
         self.read_acts = list[DoneAct]()
         # how many acts of each name were read
         self.names = collections.Counter[str]()
-        # what `queries.all_electors` has read, and when; the acts of this process, as `act 7 (add)`
+        # what `queries.all_electors` has read, and when; the names of the acts of this process
         self.electors_at: tuple[object, list[Any]] = (None, [])
-        self.own_acts: list[str] = []
+        self.own_acts = dict[int, ActName]()
         # the label of the question that is shown alone
         self.label = ""
 
@@ -280,7 +280,7 @@ class Book:
             cure = "see debvote-election status, which tells the last act"
             done = f"nobody knows whether act {act.number} was done"
             raise Fault(self.path, reason, cure, Status.BAD_OUTPUT, done) from None
-        self.own_acts.append(f"act {act.number} ({act.name})")
+        self.own_acts[act.number] = act.name
         return digest
 
     def is_there(self, act: int) -> bool:

@@ -7,7 +7,7 @@ from typing import TypeVar
 
 from debvote_tools.book import outgoing, queries
 from debvote_tools.book.book import ActName, Book, Detail, NewAct, Overtaken
-from debvote_tools.cli.console import Kind, is_terminal, is_yes, tell
+from debvote_tools.cli.console import is_terminal, is_yes, tell
 from debvote_tools.cli.faults import Fault
 from debvote_tools.files import uninterrupted
 
@@ -23,11 +23,9 @@ class Change:
     name: ActName
     detail: Detail
     _: dataclasses.KW_ONLY
-    # what is told before it; what is asked then, if anything, and what for; and if there is nothing
-    # to do
+    # what is told before it; what is asked then, if anything; and if there is nothing to do
     shown: Sequence[str] = ()
     question: str = ""
-    kind: Kind = "yes"
     is_nothing: bool = False
     # the envelopes that are struck, and what is decided of letters
     struck: Sequence[int] = ()
@@ -40,6 +38,10 @@ class Change:
     def show(self) -> None:
         if self.shown:
             tell(*self.shown)
+
+    def ask(self) -> bool | None:
+        """Whether it is agreed to; None at the end of the input."""
+        return is_yes(self.question)
 
     def declined(self, _: bool | None) -> None:
         """What follows if the answer is no; None is the end of the input."""
@@ -99,7 +101,7 @@ def carried_out(book: Book, plan: Callable[[], Planned]) -> Planned:
             change.show()
             if change.is_nothing:
                 return change
-            if change.question and not (answer := is_yes(change.question, change.kind)):
+            if change.question and not (answer := change.ask()):
                 change.declined(answer)
                 return change
             shown = change

@@ -97,6 +97,12 @@ def sealed_polls(book: Book, name: str, act: int) -> dict[str, bytes]:
     return dict(book.rows(query, name, act))
 
 
+def has_sealed(book: Book, name: str, act: int) -> bool:
+    """Whether an act sealed something under a name, or under it with a label."""
+    query = "SELECT count(*) FROM sealed WHERE act = ?2 AND (name = ?1 OR name GLOB ?1 || ' ?')"
+    return bool(book.value(query, name, act))
+
+
 def labels_of(book: Book) -> list[str]:
     """The labels of the questions, as lines have them: of one alone, which has none, or is the only
     one that is seen, it is empty.
@@ -351,6 +357,12 @@ def last_envelope(book: Book) -> int:
 def elector_numbers(book: Book, names: Collection[str]) -> dict[str, int]:
     query = "SELECT name, elector FROM elector WHERE name IN (SELECT value FROM json_each(?))"
     return dict(book.rows(query, json.dumps(list(names))))
+
+
+def whose(book: Book, line: bytes) -> str:
+    """The name with which a line begins; empty if nobody on the roll has it."""
+    name = line.partition(b" ")[0].decode("ascii", "replace")
+    return "".join(elector_numbers(book, [name]))
 
 
 class EnteredBallot(NamedTuple):

@@ -16,7 +16,7 @@ import signal
 import sys
 import textwrap
 import unicodedata
-from collections.abc import Callable, Iterable, Sequence
+from collections.abc import Callable, Iterable, Iterator, Sequence
 from typing import IO, Literal, NoReturn
 
 from debvote_tools.cli.faults import Fault, Status
@@ -28,9 +28,11 @@ LINES_AT_ONCE = 1_000
 ZONE = contextvars.ContextVar[datetime.tzinfo | None]("zone", default=datetime.UTC)
 # leaves out of a text what is never shown, such as the links with which somebody could vote
 LEAVING_OUT = contextvars.ContextVar[Callable[[str], str]]("leaving out", default=str)
-# whether a terminal alone shows what people wrote, once the acts are read: cron sends by mail what
-# a command says, and in a secret vote with a web box ballots come by no mail
-FOR_TERMINALS = contextvars.ContextVar[bool]("for terminals", default=False)
+# in a secret vote with names, once the acts are read: whose line one is. There no command tells
+# what is in it, or in a letter, before somebody asked for it
+WHOSE = contextvars.ContextVar[Callable[[bytes], str] | None]("whose", default=None)
+IS_ASKED_FOR = contextvars.ContextVar[bool]("is asked for", default=False)
+NOT_SHOWN = "(not shown)"
 
 
 # set where the office runs a command: a person is there, who sees what it writes and answers. A
@@ -41,9 +43,9 @@ ASKS = "\x05"
 IS_ASKED = "\x1f"
 ASKED = "\x06"
 
-# what is asked for: a ballot, one of a list, a yes, a yes to a line that would not count, a text,
-# or a password
-Kind = Literal["ballot", "choice", "yes", "refused", "text", "password"]
+# what is asked for: a ballot, one of a list, a yes, a word that enters what would not count, or a
+# password
+Kind = Literal["ballot", "choice", "yes", "refused", "password"]
 
 # of a command that came to no good end
 REPORTED = "what the command has reported is done"
@@ -177,16 +179,27 @@ def typed_unseen(question: str) -> str:
     return getpass.getpass(question)
 
 
-def is_yes(question: str, kind: Kind = "yes") -> bool | None:
+def is_yes(question: str) -> bool | None:
     """Whether the answer is yes; None at the end of the input. After another answer it asks
     again.
     """
-    while (answer := typed(f"{question} [y/n] ", kind)) is not None:
+    while (answer := typed(f"{question} [y/n] ", "yes")) is not None:
         word = answer.strip().lower()
         if word in (b"y", b"yes", b"n", b"no"):
             return word.startswith(b"y")
         tell("Type y for yes, or n for no.")
     return None
+
+
+def demand_yes(question: str, why: str) -> None:
+    """Asks at a terminal in a secret vote, and stops unless the answer is yes; elsewhere it
+    stops.
+    """
+    if not is_terminal():
+        cure = "check that this is all right, then repeat the command with --yes"
+        raise Fault(None, f"the vote is secret, and {why}", cure)
+    if not is_yes(f"The vote is secret. {question}"):
+        raise Fault(None, "you did not say yes", "put it right, then repeat the command")
 
 
 # ---- characters
@@ -237,17 +250,44 @@ def number_of(character: str) -> str:
     return f"U+{ord(character):04X}"
 
 
+def hides() -> bool:
+    """Whether nothing is told here that may say what somebody chose."""
+    return WHOSE.get() is not None and not IS_ASKED_FOR.get()
+
+
+def is_all_seen() -> bool:
+    """Whether a person sees all that is told: cron sends by mail what a command tells."""
+    return AT_OFFICE or all(output and output.isatty() for output in (sys.stdout, sys.stderr))
+
+
+@contextlib.contextmanager
+def asked_for(is_asked: bool) -> Iterator[None]:
+    """What is told within was asked for by a person, or for a script."""
+    before = IS_ASKED_FOR.set(is_asked)
+    try:
+        yield
+    finally:
+        IS_ASKED_FOR.reset(before)
+
+
 def private(text: str) -> str:
     """What people wrote, or what is wrong with it, which may say what they chose."""
-    outputs = (sys.stdout, sys.stderr)
-    is_shown = AT_OFFICE or all(output and output.isatty() for output in outputs)
-    return "(shown at a terminal alone)" if text and FOR_TERMINALS.get() and not is_shown else text
+    return NOT_SHOWN if text and hides() else text
+
+
+def for_terminals(text: str) -> str:
+    """Who sent a letter, as its head has it."""
+    return NOT_SHOWN if text and hides() and not is_all_seen() else text
 
 
 def shown_line(line: bytes) -> str:
-    """A line within a sentence; a character that is not seen is shown as \\u202E."""
+    """A line within a sentence; a character that is not seen is shown as \\u202E. Where it is
+    private, whose it is alone.
+    """
+    if (whose := WHOSE.get()) and hides():
+        return f"{whose(line)} ..".lstrip()
     text = cut(line.decode("utf-8", "backslashreplace"), SHOWN_OF_LINE)
-    return private("".join(KNOWN.get(character) or seen(character) for character in text))
+    return "".join(KNOWN.get(character) or seen(character) for character in text)
 
 
 def shown_text(text: str) -> str:

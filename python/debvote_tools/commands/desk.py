@@ -14,9 +14,9 @@ from debvote_tools.book.queries import Elector, NewEnvelope
 from debvote_tools.cli.arguments import flag, option
 from debvote_tools.cli.console import (
     LINE_ENDS,
+    asked_for,
     is_typed,
     odd_sign,
-    private,
     shown_line,
     shown_text,
     tell,
@@ -33,11 +33,12 @@ from debvote_tools.outbox.steps import tell_next
 from debvote_tools.poll.plain_names import alike
 from debvote_tools.text.ballots import answers_text, ranks_by_label
 from debvote_tools.text.language import ENGLISH
+from debvote_tools.text.motions import Words, with_initials
 
 QUIT = b"q"
+# enters what does not count: a yes comes by habit
+ENTER = b"enter"
 NOT_ENTERED = "It was not entered."
-# what is asked of a line that is no ballot
-REFUSED = "It would not count. Enter it anyway?"
 
 # in place of a line that is no ballot here
 NO_LINE = b"-"
@@ -82,8 +83,9 @@ class Desk:
     came_before_close: bool | None = None
     replies: list[str] = dataclasses.field(default_factory=list)
     next_line: int = 1
-    # whether the input has ended
+    # whether the input has ended, and what was typed in place of a line that does not count
     is_over: bool = False
+    typed: bytes | None = None
     # what came at a pipe: the first ballot, and the last lines that are none
     above: list[CheckedLine] = dataclasses.field(default_factory=list[CheckedLine])
     # what was said last of an end or a close that has passed
@@ -103,6 +105,20 @@ class Desk:
         """
         if self.came_before_close is None:
             self.came_before_close = entering.came_before_close(history, self.answer)
+
+    def answer_in_letters(self) -> Words:
+        """From now on a motion may be answered by letters, too, but behind labels, which are
+        letters; returns the words and letters.
+        """
+        names = self.vote.names
+        if self.vote.label or not names.labels:
+            self.vote.names = dataclasses.replace(names, words=with_initials(names.words))
+        return self.names.words if self.vote.label else self.vote.names.words
+
+    def next_typed(self) -> bytes | None:
+        answer = self.typed or typed("Ballot: ", "ballot")
+        self.typed = None
+        return answer
 
     @functools.cached_property
     def names(self) -> Names:
@@ -167,6 +183,16 @@ class Casting(entering.Entry):
         there = queries.envelope_states(self.vote.book, self.elector)
         return (self.vote.history().timing, there) == (self.timing, self.there)
 
+    def ask(self) -> bool | None:
+        if all(line.is_ballot for line in self.lines):
+            return super().ask()
+        answer = typed(self.question, "refused")
+        if answer is None:
+            return None
+        is_agreed = answer.strip().lower() == ENTER
+        self.desk.typed = None if is_agreed else answer
+        return is_agreed
+
     def declined(self, answer: bool | None) -> None:
         self.desk.is_over = answer is None
         tell(*([] if answer is None else [NOT_ENTERED]))
@@ -213,7 +239,6 @@ def what_is_cast(desk: Desk, lines: list[CheckedLine], elector: int | None, asks
         detail,
         shown=shown,
         question=asked,
-        kind="refused" if asked == REFUSED else "yes",
         is_nothing=not lines,
         vote=vote,
         envelopes=[
@@ -331,7 +356,9 @@ def at_terminal(desk: Desk) -> None:
     tell(
         f"Type a ballot as {vote.right_line} ({'the code' if vote.has_codes else 'the elector'}, {order}); q ends."
     )
-    while not desk.is_over and (answer := typed("Ballot: ", "ballot")) is not None:
+    if words := desk.answer_in_letters():
+        tell(f"In place of the ranks of a motion: {', '.join(words)}.")
+    while not desk.is_over and (answer := desk.next_typed()) is not None:
         line = next(iter(desk.lines_of(answer)), None)
         if line is None or line.is_empty:
             tell("Type a ballot, or q to end.")
@@ -349,7 +376,8 @@ def ask_and_cast(desk: Desk, line: Line) -> None:
     checked = desk.vote.checked_lines([meant])
     for ballot in checked:
         if not ballot.can_be_entered:
-            tell(desk.vote.why_not_entered(ballot), NOT_ENTERED)
+            with asked_for(True):
+                tell(desk.vote.why_not_entered(ballot), NOT_ENTERED)
             return
     [elector] = desk.vote.electors_of([checked[0].as_entered])
     desk.enter(checked, elector, asks=True)
@@ -427,20 +455,26 @@ def question(
     """What a ballot would be, or why it or one of its answers would be refused; and what is
     asked.
     """
-    shown = [*change_words(lines[0])]
-    for line in lines:
-        if finding := line.lasting:
-            refused = private(f"{shown_line(line.as_entered)}: {finding.word}: {finding.hint}")
-            shown += [f"It would be refused: {refused}", desk.vote.right_words()]
-        else:
-            shown.append(desk.vote.in_words(line))
-    if not (ballots := [line for line in lines if line.is_ballot]):
-        return shown, REFUSED
-    if is_late:
+    with asked_for(True):
+        shown = [*change_words(lines[0])]
+        for line in lines:
+            shown += typed_words(desk.vote, line)
+    ballots = [line for line in lines if line.is_ballot]
+    if ballots and is_late:
         shown.append("It is late, and will not count.")
-    elif elector is not None:
+    elif ballots and elector is not None:
         shown += earlier_words(desk.vote, ballots[0], elector)
-    return shown, "Enter it?"
+    if ballots == lines:
+        return shown, "Enter it?"
+    return shown, "What is refused does not count. Type the line anew, or enter to enter it so: "
+
+
+def typed_words(vote: Vote, line: CheckedLine) -> Iterator[str]:
+    if finding := line.lasting:
+        refused = f"{shown_line(line.as_entered)}: {finding.word}: {finding.hint}"
+        yield from (f"It would be refused: {refused}", vote.right_words())
+    else:
+        yield vote.in_words(line)
 
 
 def earlier_words(vote: Vote, ballot: CheckedLine, elector: int) -> Iterator[str]:
@@ -455,5 +489,5 @@ def earlier_words(vote: Vote, ballot: CheckedLine, elector: int) -> Iterator[str
         words = f"{ballot.voter} has a ballot, which will be replaced"
         yield vote.with_answers(words, answers_text(replaced))
     if stays:
-        words = f"These earlier answers of {ballot.voter} stay"
+        words = f"The earlier answers of {ballot.voter} to {ENGLISH.joined(sorted(stays))} stay"
         yield vote.with_answers(words, answers_text(stays))

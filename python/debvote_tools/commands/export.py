@@ -5,8 +5,8 @@ import pathlib
 import re
 
 from debvote_tools.book import queries
-from debvote_tools.cli.arguments import Options, positional
-from debvote_tools.cli.console import tell
+from debvote_tools.cli.arguments import Options, flag, positional
+from debvote_tools.cli.console import demand_yes, hides, tell
 from debvote_tools.cli.faults import bad_words
 from debvote_tools.election import CALL, LETTERS, PRIVATE, RESULT, Election
 from debvote_tools.files import whole_folder, write_whole
@@ -20,6 +20,7 @@ LONGEST_FILE_NAME = 100
 
 class Arguments(Options):
     target_folder: str = positional("FOLDER", "The folder to make")
+    yes: bool = flag("In a secret vote: write the ballots without asking")
 
 
 def export(election: Election, arguments: Arguments) -> None:
@@ -29,6 +30,9 @@ def export(election: Election, arguments: Arguments) -> None:
     election.whole_book()
     target_folder = pathlib.Path(arguments.target_folder)
     demand_new(election, target_folder, "folder")
+    election.history()
+    if hides() and not arguments.yes:
+        demand_yes("Write who voted what?", "this writes who voted what into files")
     files = exported(election)
     with whole_folder(target_folder) as folder:
         (folder / "came").mkdir(mode=0o700)

@@ -13,7 +13,15 @@ from debvote_tools.book.change import Change, carried_out, terminal_question
 from debvote_tools.book.queries import Ballot, EnteredBallot
 from debvote_tools.call.call import current_call
 from debvote_tools.cli.arguments import Acting, flag, given, option, positional
-from debvote_tools.cli.console import count_of, is_terminal, private, shown_line, tell
+from debvote_tools.cli.console import (
+    asked_for,
+    count_of,
+    is_all_seen,
+    is_terminal,
+    private,
+    shown_line,
+    tell,
+)
 from debvote_tools.cli.faults import Fault, bad_words, kept_in, stop_at
 from debvote_tools.election import Election, History
 from debvote_tools.grouping import grouped
@@ -88,7 +96,8 @@ def held(election: Election, arguments: Arguments) -> None:
     if arguments.set_aside or arguments.wait:
         carried_out(vote.book, lambda: what_is_decided(vote, arguments))
     elif arguments.enter or arguments.typed:
-        enter(vote, arguments)
+        with asked_for(is_all_seen()):
+            enter(vote, arguments)
     letters = all_letters(vote)
     pending = [letter for letter in letters if letter.is_pending]
     named = chosen_letters(letters, arguments.numbers)
@@ -389,7 +398,7 @@ def ballot_of(vote: Vote, text: str) -> str:
         *_, line = vote.checked_lines(lines)
         if (finding := line.lasting) is None:
             return line.as_entered.decode("ascii")
-        answer = private(line.why_unclear or finding.verdict)
+        answer = private(line.why_unclear or finding.answer)
     raise Fault(
         "--as",
         f"`{shown_line(text.encode('utf-8', 'backslashreplace'))}` is no ballot of this poll: {answer}",

@@ -11,7 +11,7 @@ from debvote_tools.book.change import Change
 from debvote_tools.call.box import SCRIPT, records_file
 from debvote_tools.call.draft import texts_of
 from debvote_tools.cli.arguments import Acting, demand_reason, flag, option, positional
-from debvote_tools.cli.console import act_time, odd_sign, tell, tell_aside
+from debvote_tools.cli.console import act_time, demand_yes, odd_sign, tell, tell_aside
 from debvote_tools.cli.faults import Fault, bad_words, kept_in, stop_at
 from debvote_tools.election import (
     BOX_KEY,
@@ -384,5 +384,5 @@ def agreed_in_secret(
     compared = dict.fromkeys(name for facts in questions for name in facts.compared)
     if compared and not is_agreed:
         why = f"a comparison with the earlier result shows how these voted: {', '.join(compared)}"
-        publication.demand_yes(f"Publish it, although {why}?", why)
+        demand_yes(f"Publish it, although {why}?", why)
     return agreed

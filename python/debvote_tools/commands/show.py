@@ -4,8 +4,17 @@ from collections.abc import Iterator, Sequence
 
 from debvote_tools.book import outgoing, queries
 from debvote_tools.book.queries import Envelope
-from debvote_tools.cli.arguments import Options, positional
-from debvote_tools.cli.console import act_time, private, shown_line, shown_text, tell
+from debvote_tools.cli.arguments import Options, flag, positional
+from debvote_tools.cli.console import (
+    act_time,
+    asked_for,
+    demand_yes,
+    hides,
+    private,
+    shown_line,
+    shown_text,
+    tell,
+)
 from debvote_tools.cli.faults import Fault
 from debvote_tools.election import Election, History
 from debvote_tools.inbox import letter_words
@@ -16,15 +25,23 @@ from debvote_tools.poll.codes import has_code
 
 class Arguments(Options):
     name: str = positional("NAME", "The elector's name on the roll, or the real name")
+    yes: bool = flag("In a secret vote: show the ballots without asking")
 
 
 def show(election: Election, arguments: Arguments) -> None:
     """Show one elector: the ballots and letters that came, the current ballot, and what was
     sent.
     """
-    history = election.history()
     vote = Vote(election)
     elector = elector_named(election, vote, arguments.name)
+    if hides() and not arguments.yes:
+        demand_yes(f"Show what {elector.name} voted?", f"this shows what {elector.name} voted")
+    with asked_for(True):
+        show_elector(election, vote, elector)
+
+
+def show_elector(election: Election, vote: Vote, elector: queries.Elector) -> None:
+    history = election.history()
     who = f": {shown_text(elector.who)} {', '.join(map(shown_text, elector.addresses))}"
     # nobody knows whose code it is
     tell(elector.name if vote.has_codes else f"{elector.name}{who.rstrip(': ')}")

@@ -23,7 +23,7 @@ from debvote_tools.election import Election, History
 from debvote_tools.inbox import letter_words
 from debvote_tools.inbox.asked import asked_last, asked_words, with_lost_records
 from debvote_tools.inbox.stopping import Pending, pending_letters, taken_out_words
-from debvote_tools.inbox.vote import envelope_words
+from debvote_tools.inbox.vote import Vote, envelope_words
 from debvote_tools.outbox.reached import unreached_and_printed
 from debvote_tools.outbox.steps import SAID, in_words, tell_next, what_next
 from debvote_tools.text import times
@@ -182,9 +182,10 @@ def state_words(
         yield f"Refused: {envelope_words([envelope.number for envelope in refused])}"
     elif refused:
         yield f"Refused lines of electors without a ballot to the question, or of nobody known ({len(refused)}):"
-        for envelope in refused:
+        for envelope in Vote(election).with_reasons_of_now(refused):
             yield f"  envelope {envelope.number}: {shown_line(envelope.line)}"
-            yield f"    {private(str(envelope.why_refused))}"
+            word, _, why = str(envelope.why_refused).partition(": ")
+            yield f"    {word}: {private(why)}"
     if state["waiting"]:
         yield f"{letter_words.wait_words(state['waiting'])} until you have looked at them: {election.command('held')}"
     if state["stopping"]:

@@ -42,8 +42,8 @@ def strike(election: Election, arguments: Arguments) -> None:
         elector = name_in(envelope.line).decode("ascii")
         answers = queries.what_counts(book, {envelope.elector}).get(elector)
         whose = "that code" if vote.has_codes else elector
-        current = f"The current ballot of {whose}"
-        tell(vote.with_answers(current, answers) if answers else f"{current}: none")
+        words = f"Another ballot of {whose} counts"
+        tell(vote.with_answers(words, answers) if answers else f"No ballot of {whose} counts")
     tell(*letter_words.judged_anew(judged_before, letters_now(vote), change.letters))
     tell("A strike cannot be undone: if it was a mistake, enter the line again.")
     tell_next(election)

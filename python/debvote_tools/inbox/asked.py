@@ -41,7 +41,7 @@ NEEDS = {
     "at": ("ballots may lie on the page at the address of now", ""),
     "page": ("the page on the web host was not that of the call", CLOSE),
     "close": ("the web box was not asked since the end", CLOSE),
-    "early": ("the web box was not asked in the last ten minutes", CLOSE),
+    "early": ("the web box has not answered just now", CLOSE),
 } | dict.fromkeys(
     AFTER_CLOSE,
     ("the web box was not asked since the vote was closed early", f"go on {FORCE}"),
@@ -128,6 +128,11 @@ def is_unasked_since_end(history: History) -> bool:
     )
 
 
+def is_asked_by_this_run(election: Election, history: History) -> bool:
+    """Whether this run has asked the box: until an early close ballots come at any time."""
+    return any(act.number in election.opened.own_acts for act in history.askings[-1:])
+
+
 def unasked_fault(election: Election, history: History, what: str) -> Fault | None:
     """Why something has to wait until the box is asked; None if it need not."""
     closes = history.closes
@@ -146,7 +151,7 @@ def unasked_fault(election: Election, history: History, what: str) -> Fault | No
         "at": recently if last else None,
         # what comes after the first close is late
         "close": None if closes else history.until,
-        "early": None if closes else recently,
+        "early": None if closes else recently if is_asked_by_this_run(election, history) else now(),
         **dict.fromkeys(AFTER_CLOSE, closes[0].time if history.was_closed_early else None),
     }
     since = times.get(what)

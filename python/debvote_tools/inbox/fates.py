@@ -73,7 +73,8 @@ def fates_of(
     book = election.book
     electors = queries.electors(book) if elector is None else [elector]
     names = {one.number: one.name for one in electors}
-    cases = judged(Vote(election), history, queries.kept_letters(book))
+    vote = Vote(election)
+    cases = judged(vote, history, queries.kept_letters(book))
     letters = {letter.number: letter for letter in cases}
     fates = [
         (
@@ -86,7 +87,9 @@ def fates_of(
                 desk=history.act(envelope.act).detail.get("desk", ""),
             ),
         )
-        for envelope in queries.envelopes_of(book, names if elector else None)
+        for envelope in vote.with_reasons_of_now(
+            queries.envelopes_of(book, names if elector else None)
+        )
     ]
     for letter in cases:
         time = letter.read.arrived or history.act(letter.kept.act).time

@@ -5,8 +5,12 @@ from collections.abc import Callable, Collection, Iterator, Mapping, Sequence
 
 from debvote_tools.cli.console import (
     act_time,
+    asked_for,
     count_of,
     cut,
+    for_terminals,
+    hides,
+    is_all_seen,
     listed,
     private,
     seen,
@@ -38,7 +42,7 @@ def name_of(letter: LetterCase) -> str:
 
 
 def sender_of(letter: LetterCase) -> str:
-    sender = "the page of the vote" if letter.read.link else private(letter.read.shown_sender)
+    sender = "the page of the vote" if letter.read.link else for_terminals(letter.read.shown_sender)
     return shown_text(sender) or "nobody"
 
 
@@ -73,7 +77,7 @@ def going_in_words(letters: Sequence[LetterCase], vote: Vote) -> Iterator[str]:
 def ballot_words(letter: LetterCase, vote: Vote, *, is_short: bool) -> str:
     line = letter.sole_ballot
     is_same = line.written == line.as_entered
-    as_written = "" if is_same else f", written `{shown_line(line.written.encode())}`"
+    as_written = "" if is_same or hides() else f", written `{shown_line(line.written.encode())}`"
     whose = f"{line.elector} ({name_of(letter)}{as_written})"
     return vote.with_answers(whose, line.as_entered.partition(" ")[2], is_short=is_short)
 
@@ -148,8 +152,8 @@ def why(letter: LetterCase, elector: str = "") -> str:
 def near_words(letter: LetterCase) -> Iterator[str]:
     """Where the text has ballots, or what may be meant as one."""
     for line in letter.proposals:
-        secret = letter.circumstances.tells_codes
-        yield f"line {line.number}: {f'a ballot of {line.elector}' if secret else line.as_entered}{quoted_words(letter, line)}"
+        ballot = f"a ballot of {line.elector}" if hides() else line.as_entered
+        yield f"line {line.number}: {ballot}{quoted_words(letter, line)}"
     for near in letter.refused:
         yield f"line {near.number}, {private(f'ranks {shown_text(near.ranks)}: {near.answer}')}"
     for number in letter.read.text.outside:
@@ -175,18 +179,19 @@ def wait_words(number: int) -> str:
 # ---- a letter line by line
 def whole(letter: LetterCase, is_ours: Callable[[str], bool]) -> Iterator[str]:
     """All that a letter says, but for what it repeats of a letter of ours. In a secret vote only
-    while it waits.
+    while it waits, at a terminal.
     """
-    yield who_and_when(letter)
-    yield f"  subject: {subject_of(letter)}"
-    if letter.is_pending or not letter.circumstances.tells_codes:
-        yield from text_of(letter, is_ours)
-    if letter.outcome is LetterOutcome.ENTERED:
-        yield "It was entered."
-    elif letter.reason is not None:
-        waits = "waits" if letter.is_pending else "does not wait"
-        yield f"It {waits}: {for_secretary(letter.reason)}"
-    yield from (*near_words(letter), *more_words(letter))
+    with asked_for(letter.is_pending and is_all_seen()):
+        yield who_and_when(letter)
+        yield f"  subject: {subject_of(letter)}"
+        if not hides():
+            yield from text_of(letter, is_ours)
+        if letter.outcome is LetterOutcome.ENTERED:
+            yield "It was entered."
+        elif letter.reason is not None:
+            waits = "waits" if letter.is_pending else "does not wait"
+            yield f"It {waits}: {for_secretary(letter.reason)}"
+        yield from (*near_words(letter), *more_words(letter))
 
 
 def text_of(letter: LetterCase, is_ours: Callable[[str], bool]) -> Iterator[str]:

@@ -18,7 +18,7 @@ from collections.abc import Collection, Mapping, Sequence
 from debvote_tools.book import queries
 from debvote_tools.book.queries import Elector, EnteredBallot, KeptLetter, OwnMark
 from debvote_tools.call.box import third_part
-from debvote_tools.cli.console import private
+from debvote_tools.cli.console import for_terminals
 from debvote_tools.grouping import grouped
 from debvote_tools.inbox.letter import is_server
 from debvote_tools.inbox.letter_lines import BallotLine, ReadLetter
@@ -409,7 +409,7 @@ def why_not_from_its_elector(case: LetterCase) -> ReasonWithValues | None:
     read = case.read
     elector = case.elector
     if not (read.sender or read.link):
-        return Reason.NO_SENDER(sender=private(read.shown_sender))
+        return Reason.NO_SENDER(sender=for_terminals(read.shown_sender))
     if case.ballot is None:
         return None
     is_theirs = elector in case.sharing

@@ -22,14 +22,15 @@ from debvote_tools.inbox.asked import CLOSES, unasked_fault, with_lost_records
 if TYPE_CHECKING:
     from debvote_tools.inbox.rules import LetterCase
 
-# the kinds of what stops, as the page names the doubts about them, but for what nobody can open
+# the kinds of what stops, as the page names the doubts about them
 LETTERS = "letters left"
 BOX = "box not asked"
 LOST = "records lost"
-CLOSE_ANYWAY = "or close anyway with --force --because TEXT (the result page says so)"
+CLOSE_ANYWAY = "close anyway with --force --because TEXT (the result page says so)"
 # how each later step goes on without the letters that stop it; a publication says it in its doubts
 ANYWAY = {
     "count": "or count without them with --force",
+    "closed": "or send the checksum without them, with --force --because TEXT",
     "result": "or publish without them, with --force --because TEXT",
 }
 
@@ -61,16 +62,17 @@ def what_stops(
     election: Election, history: History, step: str, pending: Pending
 ) -> dict[str, Fault]:
     """Why a step has to wait, by the kinds of what stops. Steps are `close` or, before the end,
-    `early`; `count`, `publish`, and the letters of the `result`. What can be forced each command
-    says.
+    `early`; `count`, `publish`, and the letters `closed` and `result`. What can be forced each
+    command says.
     """
     unasked = unasked_fault(election, history, step)
     faults = {BOX: unasked} if unasked else {}
     # after the first close nobody can vote again
     if step in CLOSES and not history.closes and (lost := with_lost_records(election, history)):
         words = f"ballots came by the links of these electors that nobody can open, and no later ones: {', '.join(lost)}"
-        cure = f"ask them to vote again ({election.command('letters', 'reminders')} says it); {CLOSE_ANYWAY}"
-        faults[LOST] = Fault(None, words, cure)
+        ask = f"ask them to vote again ({election.command('letters', 'reminders')} says it); or "
+        is_over = history.until is not None and step != "early"
+        faults[LOST] = Fault(None, words, f"{'' if is_over else ask}{CLOSE_ANYWAY}")
     if pending.stopping:
         cure = letters_cure(election, step, is_closed=history.is_closed)
         faults[LETTERS] = Fault(None, pending.why_they_stop, cure)
@@ -81,7 +83,7 @@ def letters_cure(election: Election, step: str, *, is_closed: bool) -> str:
     """What is done with letters that stop a step."""
     if not is_closed:
         look = f"add the mailbox once more, then look at them with {election.command('held')}"
-        return f"{look}; {CLOSE_ANYWAY}"
+        return f"{look}; or {CLOSE_ANYWAY}"
     aside = f"set aside what is no ballot: {election.command('held', 'NUMBER', '--set-aside')}"
     reopen = election.command("reopen", "--because", "TEXT")
     enter = (

@@ -9,8 +9,17 @@ from collections.abc import Collection, Iterable, Iterator, Mapping, Sequence
 from typing import NamedTuple
 
 from debvote_tools.book import queries
+from debvote_tools.book.queries import Envelope
 from debvote_tools.call.box import without_links
-from debvote_tools.cli.console import LEAVING_OUT, count_of, cut, in_runs, private, shown_line
+from debvote_tools.cli.console import (
+    LEAVING_OUT,
+    count_of,
+    cut,
+    hides,
+    in_runs,
+    private,
+    shown_line,
+)
 from debvote_tools.cli.faults import Fault
 from debvote_tools.debvote import Finding, Findings
 from debvote_tools.election import Election, History
@@ -79,7 +88,7 @@ class CheckedLine(NamedTuple):
     @property
     def why_refused(self) -> str | None:
         """What the book keeps of what debvote says, without its remark on other lines."""
-        return None if self.finding is None else self.finding.verdict
+        return None if self.finding is None else self.finding.answer
 
     @property
     def voter(self) -> str:
@@ -232,9 +241,18 @@ class Vote:
         """
         refused = self.refusals(lines)
         return {
-            line: next((finding.verdict for finding in refused[line].values()), None)
+            line: next((finding.answer for finding in refused[line].values()), None)
             for line in lines
         }
+
+    def with_reasons_of_now(self, envelopes: Sequence[Envelope]) -> list[Envelope]:
+        """Envelopes with the reasons for which debvote refuses their lines now: the book may have
+        those of another version.
+        """
+        reasons = self.why_each_refused([one.line for one in envelopes if one.why_refused])
+        return [
+            one._replace(why_refused=reasons.get(one.line) or one.why_refused) for one in envelopes
+        ]
 
     def refusals(self, lines: Sequence[bytes]) -> Mapping[bytes, Mapping[str, Finding]]:
         """Why debvote refuses answers in lines, by the labels of their questions; nothing of a
@@ -351,18 +369,22 @@ class Vote:
         others = self.other_names(line.finding.near)
         names = f" (or {ENGLISH.joined(others)})" if others else ""
         is_code = has_code(line.as_meant.decode("utf-8", "replace")) and not self.has_codes
-        refused = f"{shown_line(line.as_entered)}: {word}{line.finding.hint}{names}"
-        return private(refused) + (IS_CODE if is_code else "")
+        why = f"{line.finding.hint}{names}"
+        # a name alone
+        why = why if line.finding.near else private(why)
+        return f"{shown_line(line.as_entered)}: {word}{why}{IS_CODE if is_code else ''}"
 
     def with_answers(
         self, words: str, answers: str, indent: str = "  ", *, is_short: bool = False
     ) -> str:
-        """Words, and behind them a ballot in words, or in short as it is entered. Of several
-        questions each answer has a line of its own.
+        """Words, and behind them a ballot in words, or in short as it is entered, unless it is
+        private. Of several questions each answer has a line of its own.
         """
+        if hides():
+            return words
         if is_short:
-            return f"{words}: {private(answers)}"
-        said = private(self.in_words_of(answers))
+            return f"{words}: {answers}"
+        said = self.in_words_of(answers)
         return (
             f"{words}:\n{textwrap.indent(said, indent)}" if self.is_several else f"{words}: {said}"
         )
@@ -373,7 +395,8 @@ class Vote:
 
     def are_many(self, ballots: Iterable[str]) -> bool:
         """Whether ballots of several questions have more lines in words than are read at once."""
-        return self.is_several and sum(map(len, map(answers_of, ballots))) > MOST_ANSWERS
+        are_many = self.is_several and sum(map(len, map(answers_of, ballots))) > MOST_ANSWERS
+        return are_many and not hides()
 
     @property
     def show_words(self) -> str:
@@ -382,7 +405,7 @@ class Vote:
 
     @property
     def right_line(self) -> str:
-        name = "CODE" if self.has_codes else self.questions.roll[0]
+        name = "CODE" if self.has_codes else "NAME" if hides() else self.questions.roll[0]
         right = self.questions.line(name, turned_rank)
         part = part_of(right.encode(), self.label)
         return right if part is None else part.decode()

@@ -5,6 +5,7 @@ import re
 from collections.abc import Mapping, Sequence
 
 from debvote_tools.book import queries
+from debvote_tools.cli.console import asked_for
 from debvote_tools.election import Election
 from debvote_tools.inbox.entering import late_notes
 from debvote_tools.inbox.vote import Vote
@@ -72,7 +73,10 @@ def desk_of(election: Election, run: Run | None) -> Values:
         "who": "",
     }
     if run and run.ballot and run.question and run.question.kind != "ballot":
-        if drawn := drawn_in(vote, said, run.ballot):
+        # who types it sees it
+        with asked_for(True):
+            drawn = drawn_in(vote, said, run.ballot)
+        if drawn:
             typed, words = drawn
             said = [line for line in said if line not in words]
             who = next((one.who for one in electors if one.name == typed.name), "")

@@ -5,9 +5,9 @@ from collections.abc import Callable, Mapping
 
 from debvote_tools.cli.faults import Fault, bad_words
 from debvote_tools.commands.held import NOT_TIED, VOTED_SINCE
-from debvote_tools.election import CALL
-from debvote_tools.outbox.steps import SAID
-from debvote_tools.office import acts, desks, drafts, own_programs, state, views
+from debvote_tools.election import CALL, RESULT
+from debvote_tools.outbox.steps import SAID, published_place
+from debvote_tools.office import acts, desks, drafts, own_programs, state
 from debvote_tools.office.office import ALL
 from debvote_tools.office.pages import number_of_desk
 from debvote_tools.office.runs import Place, Run, Task
@@ -183,12 +183,12 @@ def upload(visit: Visit, rest: str) -> Answer:
     own = agreed(visit)
     history = visit.election.history()
     kind = first(visit.form, "kind")
-    if kind == CALL:
-        place = visit.election.path(CALL)
-    elif (last := history.last_publication) and views.folder_of_result(visit.election, last)[1]:
-        place = views.folder_of_result(visit.election, last)[0]
-    else:
-        raise Fault(None, "there is no folder of a result", "publish it first")
+    place = visit.election.path(CALL)
+    if kind == RESULT:
+        published = published_place(visit.election, history)
+        if published is None:
+            raise Fault(None, "the folder of the result is not there", "publish it first")
+        place = published
     ask = Task(("add", "--box"), Place("letters"), needs=False)
     tasks = [Task(own.upload_words(place.resolve()), is_own=True)]
     if history.announced("box"):
@@ -223,7 +223,7 @@ def agree(visit: Visit, rest: str) -> Answer:
 
 
 def done(visit: Visit, rest: str) -> Answer:
-    if rest not in SAID:
+    if rest not in [step.value for step in SAID]:
         raise Refused()
     return follow(
         visit, visit.office.runs.command("status", f"--done={rest}", places=Place(done=""))

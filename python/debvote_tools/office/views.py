@@ -1,21 +1,18 @@
 """What the pages show of the whole election: read anew for each, as commands find it."""
 
 import datetime
-import itertools
 import pathlib
 import types
 from collections.abc import Mapping, Sequence
 from typing import Any
 
 from debvote_tools.book import queries
-from debvote_tools.book.book import DoneAct
 from debvote_tools.cli.console import shown_text
 from debvote_tools.commands import status
 from debvote_tools.commands.codes import SLIPS
 from debvote_tools.election import LETTERS, PRIVATE, RESULT, Election, History
-from debvote_tools.files import sha256_of
 from debvote_tools.outbox.letter_folder import TO_PRINT
-from debvote_tools.outbox.steps import what_next
+from debvote_tools.outbox.steps import next_place, published_place, what_next
 from debvote_tools.poll.plain_names import alike
 from debvote_tools.poll.questions import Questions, place_of
 from debvote_tools.result.facts import PublishedWords
@@ -49,43 +46,27 @@ def state_of(election: Election) -> Values:
         "is_over": history.until is not None and times.now() >= history.until,
         "doubts": [f"{doubt.file}: {doubt.reason}" for doubt in election.opened.doubts()],
         "results": results_of(election, history, questions),
-        "tied": tied_of(history, questions),
         "dues": dues,
         "prints": prints_of(election),
-        "next_folder": next_folder(election),
+        "next_folder": "".join(next_place(election)),
     }
 
 
 # ---- what was published
-def folder_of_result(election: Election, last: DoneAct) -> tuple[pathlib.Path, Mapping[str, str]]:
-    """The folder of a publication, if it is in that of the election, and the checksums of its
-    files; it has none if it is not there.
-    """
-    wanted = last.detail["checksums"][CHECKSUMS]
-    for folder in (election.path(RESULT), *sorted(election.folder.iterdir())):
-        try:
-            data = (folder / CHECKSUMS).read_bytes()
-        except OSError:
-            continue
-        if sha256_of(data) == wanted:
-            rows = (line.split("  ", 1) for line in data.decode().splitlines())
-            return folder, {name: checksum for checksum, name in rows} | {CHECKSUMS: wanted}
-    return election.path(RESULT), {}
-
-
 def published_file(election: Election, history: History, name: str) -> bytes | None:
-    """A file of what was published last, as it was published; None if there is none, or it is
-    another one, or the vote was opened again.
+    """A file of what was published last, as it was published; None if there is none, or the vote
+    was opened again.
     """
-    last = history.last_publication
-    if last is None or history.stage != "published":
+    place = published_place(election, history) if history.stage == "published" else None
+    if place is None or not is_named(place, name):
         return None
-    folder, checksums = folder_of_result(election, last)
-    try:
-        data = (folder / name).read_bytes() if name in checksums else b""
-    except OSError:
-        return None
-    return data if sha256_of(data) == checksums.get(name) else None
+    return (place / name).read_bytes()
+
+
+def is_named(place: pathlib.Path, name: str) -> bool:
+    """Whether a file is one of those of which a publication has the checksums."""
+    rows = (place / CHECKSUMS).read_text().splitlines()
+    return name in (CHECKSUMS, *(row.split("  ", 1)[1] for row in rows))
 
 
 def results_of(election: Election, history: History, questions: Questions | None) -> list[Values]:
@@ -130,21 +111,6 @@ def casting_facts(history: History, label: str) -> types.SimpleNamespace:
         vote=types.SimpleNamespace(words=words),
         cast_day=day and datetime.date.fromisoformat(day),
     )
-
-
-def next_folder(election: Election) -> str:
-    """A folder for another publication, which takes the place of none."""
-    names = (f"{RESULT}-{number}" for number in itertools.count(2))
-    return next(name for name in names if not election.path(name).exists())
-
-
-def tied_of(history: History, questions: Questions | None) -> dict[str, Sequence[str]]:
-    """The options that are left, by the label of each question that ended in a tie."""
-    return {
-        label: [questions[label].names[option - 1] for option in ended["left"]]
-        for label, ended in ended_in(history).items()
-        if questions and ended["winner"] is None
-    }
 
 
 # ---- what is to be printed

@@ -148,7 +148,7 @@ def letters_due(
     hides_codes = history.is_secret_by_click and not has_codes
     electors = electors_by_number(election, hides_codes=hides_codes)
     noted_before = outgoing.outgoing_letters(election.book, kind)
-    composer = Composer(call_data, is_over)
+    composer = Composer(call_data, is_over, with_lost_records(election, history))
     tried_again = not_through(election, history, electors, noted_before)
     run = Run(
         election,
@@ -172,9 +172,14 @@ def history_once_due(election: Election, kind: str, because: str | None) -> Hist
     """
     history = election.history()
     demand_due(election, history, kind, is_over=history.is_over(now()))
-    if kind in ASKING and not has_reason(because):
+    is_forced = has_reason(because)
+    if kind in ASKING and not is_forced:
         ask_for(election, kind)
-    return election.history()
+    history = election.history()
+    if kind == "result" or (kind == "closed" and not is_forced):
+        pending = pending_letters(election, history)
+        stop_at(what_stops(election, history, kind, pending).values())
+    return history
 
 
 def electors_by_number(election: Election, *, hides_codes: bool) -> dict[int, Elector]:
@@ -210,9 +215,6 @@ def demand_due(election: Election, history: History, kind: str, *, is_over: bool
         words = "codes are on the roll, and nobody knows whose they are, so no letters can be written to electors"
         cure = "with your mail program send call/call.txt, letters/closed.txt and letters/result.txt to all"
         raise Fault("letters", words, cure)
-    if kind == "result" and history.is_closed:
-        pending = pending_letters(election, history)
-        stop_at([*what_stops(election, history, kind, pending).values()])
     if kind in ("call", "reminders") and is_over:
         words = "the vote is over, so nobody is asked to vote"
         cure = f"see {election.command('status')}"
@@ -317,16 +319,15 @@ def reminders_due(run: Run) -> LettersDue:
     """
     fates = fates_of(run.election, run.history)
     counting = queries.what_counts(run.election.book)
-    lost = with_lost_records(run.election, run.history)
     silent = {
         number: elector
         for number, elector in run.electors.items()
-        if elector.name not in counting or elector.name in lost
+        if elector.name not in counting or elector.name in run.composer.lost
     }
     # whom a letter did not reach is reminded again, but not in the same run
     run = dataclasses.replace(run, electors=silent, tried_again=())
     compose: Compose = lambda elector, _: reminder_or_receipt(
-        run.composer, elector, fates[elector.name], is_lost=elector.name in lost
+        run.composer, elector, fates[elector.name]
     )
     last = max((letter.for_act for letter in run.noted_before), default=0)
     due = to_each(run, last, compose)
@@ -341,13 +342,13 @@ def reminders_due(run: Run) -> LettersDue:
 
 
 def reminder_or_receipt(
-    composer: Composer, elector: Elector, fates: Sequence[Fate], *, is_lost: bool
+    composer: Composer, elector: Elector, fates: Sequence[Fate]
 ) -> OutgoingText:
     """A reminder; a receipt, if only a yes in `add` is lacking."""
     told = [fate for fate in told_of(fates).values() if fate.became is not LetterOutcome.SET_ASIDE]
     if any(fate.became is LetterOutcome.GOES_IN for fate in fates):
         return composer.receipt(elector, told)
-    return composer.reminder(elector, told, is_lost=is_lost)
+    return composer.reminder(elector, told)
 
 
 def receipts_due(run: Run) -> LettersDue:

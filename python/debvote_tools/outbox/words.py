@@ -7,7 +7,7 @@ quotes a letter goes in.
 
 import dataclasses
 import datetime
-from collections.abc import Iterator, Sequence
+from collections.abc import Collection, Iterator, Sequence
 from typing import NamedTuple
 
 from debvote_tools.book.queries import Elector
@@ -115,6 +115,8 @@ class Composer:
 
     call_data: CallData
     is_over: bool
+    # the electors whose last ballot nobody can open
+    lost: Collection[str] = ()
 
     @property
     def language(self) -> Language:
@@ -143,15 +145,13 @@ class Composer:
                 break
         return letter
 
-    def reminder(
-        self, elector: Elector, fates: Sequence[Fate], *, is_lost: bool = False
-    ) -> OutgoingText:
+    def reminder(self, elector: Elector, fates: Sequence[Fate]) -> OutgoingText:
         """A letter to an elector without a ballot that counts, or whose last one is lost. If a line
         or a letter of theirs has come, it says what became of it, and that they can send a right
         line now.
         """
         has_come = any(fate.is_own or fate.envelope for fate in fates)
-        return self.letter("reminders", elector, fates=fates, has_come=has_come, is_lost=is_lost)
+        return self.letter("reminders", elector, fates=fates, has_come=has_come)
 
     def receipt(self, elector: Elector, fates: Sequence[Fate]) -> OutgoingText:
         """What became of what came from an elector. It has the right line if the last of it was
@@ -191,6 +191,7 @@ class Composer:
             greeting=self.language.say("Dear {name},", name=name),
             fate_in_words=self.fate_in_words,
             is_on_paper=is_on_paper(elector),
+            is_lost=elector.name in self.lost,
             # who has no address may not see the page, either
             is_whole=call.at is None or is_on_paper(elector),
             **values,

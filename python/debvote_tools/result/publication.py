@@ -13,15 +13,22 @@ from debvote_tools.book import queries
 from debvote_tools.book.book import RESTORED, Book, DoneAct, as_text, from_text
 from debvote_tools.call.call import current_call
 from debvote_tools.call.secret import alias_in, aliased_ballots, sealed_checksum
-from debvote_tools.cli.console import in_runs, is_terminal, is_yes, tell_aside
+from debvote_tools.cli.console import demand_yes, in_runs, tell_aside
 from debvote_tools.cli.faults import Fault
 from debvote_tools.debvote import casting_words
 from debvote_tools.election import Election, History, fixed_by
 from debvote_tools.files import sha256_of
 from debvote_tools.grouping import grouped
-from debvote_tools.inbox.asked import is_unasked_since_end, other_pages
+from debvote_tools.inbox.asked import is_unasked_since_end, other_pages, with_lost_records
 from debvote_tools.inbox.lines import name_in
-from debvote_tools.inbox.stopping import BOX, LETTERS, Pending, letters_cure, what_stops
+from debvote_tools.inbox.stopping import (
+    BOX,
+    LETTERS,
+    LOST,
+    Pending,
+    letters_cure,
+    what_stops,
+)
 from debvote_tools.poll.sealed import SealedPoll
 from debvote_tools.result.casting import Castings, publishing
 from debvote_tools.result.facts import Act, Doubt, PublishedWords, QuestionFacts, VoteFacts
@@ -42,8 +49,8 @@ class Kept(NamedTuple):
     # that count, by alias
     ballots: bytes
     public: bytes
-    # how many these are; and debvote's verdicts, as the book keeps them: why it refuses lines, by
-    # their places, and what counts of each elector
+    # how many these are; and debvote's verdicts, as the book keeps them: the words with which it
+    # refuses lines, by their places, and what counts of each elector
     lines: int
     refused: dict[int, str]
     counting: dict[str, str]
@@ -62,7 +69,7 @@ def demand_countable(election: Election, history: History) -> None:
 def kept_of(election: Election, history: History, labels: Iterable[str]) -> dict[str, Kept]:
     """What the book has of these questions. Stops if an envelope is not kept for the elector whose
     name its line begins with, if ballots are not those that the close has fixed, and if debvote,
-    asked anew, says another thing of a line than the book keeps of it.
+    asked anew, has another verdict on a line than the book keeps of it.
     """
     book = election.book
     by_label = dict[str, Kept]()
@@ -80,11 +87,7 @@ def kept_of(election: Election, history: History, labels: Iterable[str]) -> dict
                 raise Fault(None, words, KEEP)
     for kept in by_label.values():
         findings = election.debvote.findings(kept.poll.as_bytes(), kept.ballots)
-        refused = findings.refused
-        if history.has_codes_on_roll:
-            # then none was offered
-            refused = [finding._replace(near=()) for finding in refused]
-        verdicts = {finding.line: finding.verdict for finding in refused}
+        verdicts = {finding.line: finding.word for finding in findings.refused}
         demand_kept(election, (verdicts, findings.voters), (kept.refused, len(kept.counting)))
     return by_label
 
@@ -100,7 +103,12 @@ def kept_of_question(book: Book, label: str, poll: SealedPoll) -> Kept:
         ballots=ballots,
         public=aliased_ballots(counting, aliases) if poll.secret else ballots,
         lines=len(answered),
-        refused={place: why for place, (_, why) in enumerate(answered, start=1) if why is not None},
+        # another version of debvote may give the reason in other words
+        refused={
+            place: why.partition(": ")[0]
+            for place, (_, why) in enumerate(answered, start=1)
+            if why is not None
+        },
         counting=counting,
         late=queries.lines(book, "envelope IN late"),
     )
@@ -258,6 +266,10 @@ def doubts_of(
         address = act.detail["box"]["at"]
         advice = f"on {time_in_words(time)} the web host had {kind} at {address}"
         yield Doubt(kind, advice, {"time": time, "address": address}, stops=False)
+    if lost := with_lost_records(election, history):
+        advice = f"nobody can open ballots that came by the links of {', '.join(lost)}, who have no later ones"
+        # the close has agreed to it, or they came after the end
+        yield Doubt(LOST, advice, {"number": len(lost)}, stops=False)
     yield from other_castings(election, history, castings)
     if pending.untold:
         letters = ", ".join(map(str, pending.untold))
@@ -434,12 +446,3 @@ def agreed_texts(history: History, texts: Mapping[str, str], *, is_agreed: bool)
             tell_aside(f"{texts[text]}:", *(f"  {line}" for line in text.strip().split("\n")))
         demand_yes("May everybody read this?", "these texts may tell who voted what")
     return list(new.values())
-
-
-def demand_yes(question: str, why: str) -> None:
-    """Asks at a terminal, and stops unless the answer is yes; elsewhere it stops."""
-    if not is_terminal():
-        cure = "check that this is all right, then repeat the command with --yes"
-        raise Fault(None, f"the vote is secret, and {why}", cure)
-    if not is_yes(f"The vote is secret. {question}"):
-        raise Fault(None, "you did not say yes", "put it right, then repeat the command")

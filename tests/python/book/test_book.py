@@ -657,8 +657,8 @@ class Rewritten(BookTest):
             "UPDATE envelope SET answer = NULL WHERE envelope = 3",
             # two are exchanged: Ben loses his ballot, and nobody else gets one
             "UPDATE envelope SET answer = CASE envelope WHEN 4 THEN 'bad rank count: ..' END WHERE envelope IN (3, 4)",
-            # the reason is another one
-            "UPDATE envelope SET answer = answer || '.' WHERE envelope = 3",
+            # the verdict is another one
+            "UPDATE envelope SET answer = 'bad shape: ..' WHERE envelope = 3",
             # as many electors have a ballot, and each number of the sheet is the same
             "UPDATE envelope SET answer = CASE envelope WHEN 5 THEN (SELECT answer FROM envelope WHERE envelope = 6) END WHERE envelope IN (5, 6)",
         ):

@@ -13,7 +13,7 @@ from tests.support.terminal import Terminal
 
 CAST = "Enter it? [y/n] "
 REPLACED = "ada has a ballot, which will be replaced: "
-CAST_REFUSED = "It would not count. Enter it anyway? [y/n] "
+CAST_REFUSED = "What is refused does not count. Type the line anew, or enter to enter it so: "
 
 PASSED = "Note: the announced end of the vote, Friday, 4 December 2020, 18:00 (UTC+01:00), has passed; what is entered still counts until "
 
@@ -74,13 +74,16 @@ class AtATerminal(TerminalTest):
         }.items():
             # the terminal shows what was typed ahead before it or behind it
             self.assertRegex(
-                desk.after(f"{line}\nperhaps\nn\n", CAST_REFUSED),
-                rf"\n(n\n)?It would be refused: {line}: {re.escape(words)}\nA ballot line of this poll: `ada 2,3,4,1`: [^\n]*; 1 is the best\nIt would",
+                desk.after(f"{line}\n\n", CAST_REFUSED),
+                rf"\n(\n)?It would be refused: {line}: {re.escape(words)}\nA ballot line of this poll: `ada 2,3,4,1`: [^\n]*; 1 is the best\nWhat",
             )
-            # the question is asked in the same words again
-            desk.until(CAST_REFUSED)
             desk.until("Ballot: ")
-        desk.after("gsu 1,2,3,4\ny\n", "1 bad not on roll  gsu 1,2,3,4\n", "Ballot: ")
+        # a yes, which comes by habit, enters nothing, and what is typed then is a line
+        desk.after("gsu 1,2,3,4\n", CAST_REFUSED)
+        desk.after("y\n", "It was not entered.\nIt would be refused: y: ", CAST_REFUSED)
+        desk.after("gus 1,2,3,4\n", CAST)
+        desk.after("n\n", "Ballot: ")
+        desk.after("gsu 1,2,3,4\nEnter\n", "1 bad not on roll  gsu 1,2,3,4\n", "Ballot: ")
         desk.ends("q\n")
         self.assert_lines("gsu 1,2,3,4")
 
@@ -210,8 +213,9 @@ class NamesAreCompleted(TerminalTest):
         desk.after("n\nclara 1 2 4 3\n", refused, CAST_REFUSED)
         # what has no ranks, and what is part of no name
         for typed in ("clara x", "anna lange 1,2,4,3", "Clara Meier 1,2,4,3"):
-            desk.after(f"n\n{typed}\n", f"Ballot: It would be refused: {typed}: bad ", CAST_REFUSED)
-        desk.ends("n\nq\n")
+            # in place of what is refused
+            desk.after(f"{typed}\n", f"\nIt would be refused: {typed}: bad ", CAST_REFUSED)
+        desk.ends("q\n")
 
     def test_of_several_one_is_chosen(self):
         desk = self.at_terminal()
@@ -244,7 +248,7 @@ class NamesAreCompleted(TerminalTest):
         for typed in ("clara 1,2,4,3", "anna 1,2,4,3", "anna-maier 1,2,4,3", "Meier 1,2,4,3"):
             shown = desk.after(f"{typed}\n", CAST_REFUSED)
             self.assertEqual([name for name in self.names if name in shown], [])
-            desk.after("n\n", "Ballot: ")
+            desk.after("\n", "Ballot: ")
         desk.ends("q\n")
 
 

@@ -22,6 +22,9 @@ MOST = {
     "publish": 8,
     "held 2 --as": 1,
     "held 7": 1,
+    "letters": 1,
+    "show": 1,
+    "status": 1,
 }
 CALL = "call --to vote@club.example --at https://club.example/ --until '2026-12-04 18:00+00:00'"
 
@@ -123,7 +126,7 @@ class Secret(Starts):
             "held 7 --as 'fay 1,2,3,4' --as 'gus 1,2,4,3' --force not-tied --force voted-since"
         )
         self.started("desk", given="ada 1,2,3,4\n")
-        self.each("show ada", "status", "status --json", "undo --yes", "log", "log --check")
+        self.each("show --yes ada", "status", "status --json", "undo --yes", "log", "log --check")
         self.each("strike 1 --because x", "letters receipts", "letters reminders", "roll --yes")
         self.started("call --until '2026-12-05 18:00+00:00'")
         # from the close on; and once more, beside an earlier result
@@ -135,7 +138,7 @@ class Secret(Starts):
         self.each("publish", "reopen --because x")
         self.started("add --yes --came-before-close yes -", given="ida 1,2,3,4\n")
         self.each(close, f"{publish} result-2", "letters result", "letters receipts", "status")
-        self.each("export out", "backup copy.db")
+        self.each("export --yes out", "backup copy.db")
         self.assertEqual(self.tried, {*COMMANDS})
 
 
@@ -165,7 +168,11 @@ class Several(Starts):
         self.each("held 1 --enter --force not-tied --force voted-since", "held 3 4 --set-aside")
         self.started("held 2 --as 'dan A 1,2,3,4 B 1,2,3,4'")
         self.started("desk", given="ida A 1,2,3,4\n")
-        self.each("show ada", "status", "undo --yes", "strike 1 --because x", "letters receipts")
+        self.each(
+            "show --yes ada", "status", "undo --yes", "strike 1 --because x", "letters receipts"
+        )
         self.set_clock("24T11")
         self.each("close --early --force --because x", "count --force")
-        self.each("publish --yes --force --because x", "publish", "letters result", "export out")
+        self.each(
+            "publish --yes --force --because x", "publish", "letters result", "export --yes out"
+        )

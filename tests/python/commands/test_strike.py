@@ -16,12 +16,12 @@ class Strike(CalledTest):
         self.adds(f"ada {RANKS}\nben {RANKS}\nada {OTHER_RANKS}\nx\n")
 
     def test_the_line_and_what_stands_then(self):
-        said = f"Struck envelope 3: `ada {OTHER_RANKS}`, because: it was pencil\nThe current ballot of ada: {LAKE}\n"
+        said = f"Struck envelope 3: `ada {OTHER_RANKS}`, because: it was pencil\nAnother ballot of ada counts: {LAKE}\n"
         said += "A strike cannot be undone: if it was a mistake, enter the line again.\nNext: debvote-election status\n"
         self.assertEqual(self.told(f"strike 3 {WHY}"), said)
         self.assert_lines(f"ada {RANKS}", f"ben {RANKS}", "x")
         self.assertEqual(self.acts()[-1], ("strike", {"envelope": 3, "because": "it was pencil"}))
-        self.tells(f"strike 1 {WHY}", "The current ballot of ada: none\n")
+        self.tells(f"strike 1 {WHY}", "No ballot of ada counts\n")
         self.tells(
             f"strike 4 {WHY}",
             "Struck envelope 4: `x`, because: it was pencil\nA strike cannot be undone",
@@ -75,7 +75,7 @@ class Strike(CalledTest):
         self.tells("desk --came-before-close yes", "6 counted  ben: ", given=f"ben {RANKS}\n")
         self.tells(
             f"strike 5 {WHY}",
-            f"Struck envelope 5 (late): `cleo {RANKS}`, because: it was pencil\nThe current ballot of cleo: none\n",
+            f"Struck envelope 5 (late): `cleo {RANKS}`, because: it was pencil\nNo ballot of cleo counts\n",
         )
         self.told("export", self.scratch / "out")
         self.assertEqual((self.scratch / "out" / "late.txt").read_text(), "")

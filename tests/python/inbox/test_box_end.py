@@ -8,6 +8,7 @@ from collections.abc import Callable, Iterator, Sequence
 
 from tests.support import boxes
 from tests.support.boxes import OTHER, RANKS, now
+from tests.support.terminal import Terminal
 from tests.support.web_host import NEEDS_PHP
 
 # in seconds from now
@@ -114,9 +115,11 @@ class End(boxes.BoxElectionTest):
     def test_a_click_before_an_early_close_by_a_host_that_is_ahead(self):
         """What stopped `count` as in time is in time for `held`, too."""
         self.begun_to_end(180)
-        self.click("ada")
         self.off(2)
-        self.done("close --early --yes")
+        terminal = Terminal(self, "close", "--early")
+        terminal.until("[y/n] ")
+        self.click("ada")
+        terminal.ends("y\n")
         self.add_box()
         self.assertIn("these letters arrived in time, and wait: 1;", self.election("count").faults)
         self.done("reopen --because 'the click came before the close'")

@@ -149,7 +149,7 @@ class Closes(AskedTest):
         self.assertIn("Web box: 1 record when it was asked last", self.done("count --force").faults)
         self.off(700)
         # by the clock of the host it was not
-        fault = "--box: the web box was not asked in the last ten minutes: when the web box was asked last, it was only "
+        fault = "--box: the web box has not answered just now: when the web box was asked last, it was only "
         self.refused("close --early", fault, "run the command again")
         self.clock = {}
         self.add_box()
@@ -295,21 +295,37 @@ class Closes(AskedTest):
         self.assertEqual(self.standing(), {"ada": RANKS})
         self.done("log --check")
 
+    def test_a_click_just_before_an_early_one(self):
+        """It asks also if the box was asked just now; and where it can't, it stops."""
+        self.begun()
+        self.done("add --box")
+        self.click("ada")
+        self.refused("close --early", "the web box was asked, 1 new ballot is kept")
+        self.done("held 1 --set-aside")
+        (self.web / "vote.php").rename(self.web / "away")
+        ended = self.election("close --early")
+        self.assertIn("--box: the web box has not answered just now", ended.faults)
+        self.assertEqual(ended.status, 9)
+
     def test_a_click_before_an_early_one_that_the_count_finds(self):
         self.begun()
         # too early without that word: then nothing is asked
         self.later(700)
         before = len(self.acts())
         self.assertEqual((self.election("close").status, len(self.acts())), (9, before))
-        self.done("add --box")
+        terminal = Terminal(self, "close", "--early")
+        terminal.until(ALL)
         self.click("ada")
         self.later()
-        self.done("close --early")
+        terminal.ends("y\n")
         self.later()
         self.refused("letters result", "nothing is published")
-        self.done("letters closed")
-        ended = self.election("count")
-        self.assertIn("these letters arrived in time, and wait: 1;", ended.faults)
+        # what the asking finds stops it as it stops the count, before electors have the checksum
+        for words in ("letters closed", "count"):
+            ended = self.election(words)
+            self.assertIn("these letters arrived in time, and wait: 1;", ended.faults)
+        self.assertEqual([*(self.folder / "letters" / "closed").iterdir()], [])
+        self.done(f"letters closed {FORCED}")
 
     def test_in_a_secret_vote_numbers_alone_elsewhere_than_at_a_terminal(self):
         self.write("poll.toml", f"secret = true\n{elections.POLL}")

@@ -246,6 +246,16 @@ class Lies(boxes.BoxElectionTest):
         self.done("count")
         self.done("reopen --because 'A letter was found.'")
         self.done("close --early")
+        # page and letters tell it
+        self.done("publish --yes")
+        told = "Electors by whose links ballots came that nobody can open, and no later ones: 1."
+        self.assertIn(told, self.read("result/index.html").decode())
+        self.done("letters result")
+        for name, text in self.texts("result").items():
+            lost = "A ballot came by your link that nobody can open. It does not count."
+            self.assertEqual(lost in text, name == "ben", text)
+            none = "No ballot has come under your name."
+            self.assertEqual(none in text, name not in ("ada", "ben"), text)
 
     def test_letters_between_two_askings(self):
         """What came between two askings may have the time of either clock."""

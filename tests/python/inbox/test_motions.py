@@ -240,22 +240,32 @@ class Answering(LettersTest):
 
 class AtDesk(TerminalTest):
     poll = MOTION + "motion = true\n"
-    members = members_of(NAMES) + "Kim No,kim@club.example\nGrace Hopper,\n"
+    members = members_of(NAMES) + "Kim No,kim@club.example\nGrace Hopper,\nKim N,\n"
+    new_words = ("--language", "de")
 
     def test_words_for_parts_of_names_too(self):
-        desk = self.at_terminal()
+        words = "yes, no, abstain, ja, nein, enthaltung, y, n, a, j, e"
+        desk = self.at_terminal(f"\nIn place of the ranks of a motion: {words}.\n")
         completed = "`hopp` was completed to `grace-hopper`\ngrace-hopper: Abstain\n"
         replaced = "\nada has a ballot, which will be replaced: Yes: We buy a second boat"
         for typed, said, answer in (
             ("Ada: yes.\n", "\nada: Yes: We buy a second boat\n", "y\n"),
             ("hopp abstain\n", completed, "y\n"),
             ("ada no\n", replaced, "n\n"),
+            ("ben n\n", "\nben: No\n", "y\n"),
+            ("Kim N j\n", "\nkim-n: Yes: We buy a second boat\n", "y\n"),
         ):
             self.assertIn(said, desk.after(typed, CAST))
             desk.after(answer, "Ballot: ")
-        self.assertIn("It would be refused: Kim No", desk.after("Kim No\n", "anyway? "))
-        desk.ends("n\nq\n")
-        self.assertEqual(self.lines(), ["ada 1,2", "grace-hopper 1,1"])
+        for typed in ("Kim No", "Kim N"):
+            self.assertIn(
+                f"It would be refused: {typed}", desk.after(f"{typed}\n", "enter it so: ")
+            )
+            desk.after("\n", "Ballot: ")
+        desk.ends("q\n")
+        self.assertEqual(self.lines(), ["ada 1,2", "grace-hopper 1,1", "ben 2,1", "kim-n 1,2"])
+        # no file and no letter has them
+        self.assertIn("bad shape", self.told("add -", given="cleo n\n"))
 
 
 # ---------------------------------------- letters

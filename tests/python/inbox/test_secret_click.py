@@ -8,7 +8,7 @@ from tests.support.web_host import NEEDS_PHP
 
 HTTPS = "--at https://club.example/vote/"
 SECRET = f"secret = true\n{elections.POLL}"
-HIDDEN = "(shown at a terminal alone)"
+HIDDEN = "(not shown)"
 # what page and letters of a secret vote with a box never say
 INVITING = (
     "NAME _",
@@ -193,7 +193,7 @@ class SecretClicks(boxes.BoxElectionTest):
         ended.append(self.election("held", 1, "--as", "ada lake"))
         text = "".join([*said, *(one.output + one.faults for one in ended)])
         # said of a ballot line beside one that is refused: it is nobody's
-        right = "A ballot line of this poll: `ada 2,3,4,1`: the ranks of 1 At the lake, 2 In the town hall, 3 Sell the house and meet there, 4 Further discussion; 1 is the best"
+        right = "A ballot line of this poll: `NAME 2,3,4,1`: the ranks of 1 At the lake, 2 In the town hall, 3 Sell the house and meet there, 4 Further discussion; 1 is the best"
         text = text.replace(right, "")
         self.assertIn(HIDDEN, text)
         lines = ("9,9", "2-1-3", "1,2,3", "1, 2, 3", "4,3,2")

@@ -37,7 +37,7 @@ class Desk(QuestionsTest):
         )
         shown = desk.after("Ada a: 1, 2 b) 1, 2,3\n", ASKED)
         self.assertIn(
-            f"ada:\n  {YES}\n  {CHAIR}\nada has a ballot, which will be replaced:\n  {NO}\nThese earlier answers of ada stay:\n  C (A new roof): Slate",
+            f"ada:\n  {YES}\n  {CHAIR}\nada has a ballot, which will be replaced:\n  {NO}\nThe earlier answers of ada to C stay:\n  C (A new roof): Slate",
             shown,
         )
         self.assertEqual(desk.after("y\n", "Ballot: "), "y\n2 A replaced, B counted  ada\nBallot: ")
@@ -48,14 +48,14 @@ class Desk(QuestionsTest):
             r"`ada 1,2` is no ballot: a ballot is a name, and for each question.*\nIt was not entered\.\nBallot: $",
         )
         # what is refused is an envelope of its own
-        shown = desk.after("ben A 1,2,3 B 1,2,3\n", ASKED)
+        shown = desk.after("ben A 1,2,3 B 1,2,3\n", "enter it so: ")
         self.assertIn(
             f"ben:\n  {CHAIR}\nIt would be refused: ben A 1,2,3: bad rank count: 3 ranks, the poll has 2 options\n",
             shown,
         )
         self.assertEqual(
-            desk.after("y\n", "Ballot: "),
-            "y\n3 counted  ben\n4 bad rank count  ben A 1,2,3\nBallot: ",
+            desk.after("enter\n", "Ballot: "),
+            "enter\n3 counted  ben\n4 bad rank count  ben A 1,2,3\nBallot: ",
         )
         # a part of a name is completed, as ever
         self.assertIn("`cl` was completed to `cleo`\n", desk.after("cl A 1,2\n", ASKED))
@@ -93,6 +93,7 @@ class Desk(QuestionsTest):
         self.assertNotIn("new roof", shown)
         self.assertIn(f"ada:\n  {CHAIR}\n", desk.after("Ada: 1, 2, 3\n", ASKED))
         self.assertIn("\n1 counted  ada\n", desk.after("y\n", "Ballot: "))
+        self.assertNotIn("motion", shown)
         for other in ("ada A 1,2", "ada A 1,2,3", "ada B 1,2,3"):
             self.assertIn(f"`{other}` is no ballot: ", desk.after(f"{other}\n", "Ballot: "))
         desk.type("q\n")
@@ -339,7 +340,7 @@ class TakenAway(QuestionsTest):
         self.add_lines("ada A 1,2 B 1,2,3", "ada A 2,1")
         self.assertIn(f" (A replaced):\n    {YES}\n    {CHAIR}\n", self.told("show", "ada"))
         said = self.told("strike", "2", "--because", "it was ben's", "--yes")
-        self.assertIn(f"The current ballot of ada:\n  {YES}\n  {CHAIR}\n", said)
+        self.assertIn(f"Another ballot of ada counts:\n  {YES}\n  {CHAIR}\n", said)
 
     def test_a_letter_whose_later_answer_is_taken_away_is_judged_anew(self):
         """`strike` and `undo` name it, and the next `add` takes it whole."""

@@ -617,6 +617,20 @@ class OfOpenVotes(OfElections):
         moved = "that did not know it yet. The reason, in the secretary's words: a new <laptop>"
         self.assertTrue(self.what_was_done()[-1].endswith(moved))
 
+    def test_a_debvote_whose_reasons_have_other_words(self):
+        self.say("call")
+        self.add("ada-lovelace 1,2,3\nada-lovelace 2,1,3\ncleo 2,1\n")
+        other = f'case $1 in explain) {elections.PROGRAM} "$@" | sed "s/ranks, the poll/of/"; exit ;; esac'
+        path = self.other_debvote(other)
+        self.assertIn("bad rank count: 2 of has 3", self.say("status", path=path))
+        self.assertIn("bad rank count: 2 of has 3", self.say("show", "cleo", path=path))
+        self.say("close", path=path)
+        self.assertIn("Winner", self.say("count", path=path))
+        self.publish(path=path)
+        # the verdict is another one
+        other = other.replace("ranks, the poll/of", "bad rank count/bad shape")
+        self.stops("count", path=self.other_debvote(other), said=["another thing than it keeps"])
+
     def about(self):
         return [text.text() for text in self.sections()["About-this-vote"].all("p", "about")]
 
@@ -783,7 +797,7 @@ class OfSecretVotes(OfElections):
         # that is exported is that of the ballots
         told = self.say("close") + self.say("log")
         told += "".join(file.read_text() for file in self.folder.glob("letters/*.txt"))
-        self.say("export", "exported")
+        self.say("export", "exported", "--yes")
         electors, seal = queries.electors(self.book), fixed_by(self.acts()[-1])[""].seal
         aliases = {elector.name: elector.alias for elector in electors}
         lines = [f"{aliases['ada-lovelace']} 1,2,3\n", f"{aliases['zoe-muller']} 2,1,3\n"]
