@@ -3,6 +3,7 @@
 import html
 import http.client
 import os
+import pathlib
 import re
 import signal
 import subprocess
@@ -123,3 +124,18 @@ def seen(text):
 
 def descriptors(office):
     return len(os.listdir(f"/proc/{office.process.pid}/fd"))
+
+
+def children(office):
+    """The commands that an office runs."""
+    pid = office.process.pid
+    found = pathlib.Path(f"/proc/{pid}/task").glob("*/children")
+    return [int(child) for file in found for child in file.read_text().split()]
+
+
+def is_there(pid):
+    """Whether a process runs, and has not ended without being waited for."""
+    try:
+        return pathlib.Path(f"/proc/{pid}/stat").read_text().rpartition(")")[2].split()[0] != "Z"
+    except (FileNotFoundError, ProcessLookupError):
+        return False

@@ -10,7 +10,7 @@ from debvote_tools.book import queries
 from debvote_tools.cli.console import shown_text
 from debvote_tools.commands import status
 from debvote_tools.commands.codes import SLIPS
-from debvote_tools.election import LETTERS, PRIVATE, RESULT, Election, History
+from debvote_tools.election import LETTERS, PRIVATE, Election, History
 from debvote_tools.outbox.letter_folder import TO_PRINT
 from debvote_tools.outbox.steps import next_place, published_place, what_next
 from debvote_tools.poll.plain_names import alike
