@@ -108,6 +108,13 @@ class Office:
         action = action.removeprefix(self.base)
         return self.post(place or action, asked=self.asked(text), answer=answer)
 
+    def agree(self, place, **fields):
+        """What a command says at last that is answered with yes as often as it asks."""
+        text = self.post(place, **fields)
+        while 'name="asked"' in text:
+            text = self.yes(text)
+        return text
+
     def type(self, name, ranks, desk=1, **answers):
         """Types a ballot at a desk, and returns the page that reads it back."""
         text = self.page(f"desk/{desk}")

@@ -169,7 +169,8 @@ def roll(visit: Visit, rest: str) -> Answer:
 def draft(visit: Visit, rest: str) -> Answer:
     if rest:
         raise Refused()
-    return Page("draft", {**drafts.draft_of(visit.election), "changed": []})
+    values = {**drafts.draft_of(visit.election), "changed": [], "done": visit.run_in("done")}
+    return Page("draft", values)
 
 
 # ---- commands

@@ -36,6 +36,7 @@ OWN_TIME = 600
 QUESTION = re.compile(f"{ASKS}([a-z]+){IS_ASKED}([^{ASKED}]*){ASKED}")
 # what a command writes behind a question that takes yes or no, for which the page has buttons
 YES_OR_NO = " [y/n] "
+NEXT = "Next: "
 
 
 class Question(NamedTuple):
@@ -218,9 +219,11 @@ class Run:
 
 
 def lines_of(text: str) -> list[str]:
-    """The lines of what a command wrote; of one that it wrote over, the last."""
+    """The lines of what a command wrote, but for what it says of the next command, for which the
+    page has a button; of one that it wrote over, the last.
+    """
     rows = (row.rpartition("\r")[2] for row in text.split("\n"))
-    return [row for row in rows if row]
+    return [row for row in rows if row and not row.startswith(NEXT)]
 
 
 class Runs:
