@@ -42,7 +42,9 @@ class EachStage:
         self.cast(office, text)
         text = self.look(office, "published")
         self.assertIn("Has won by the casting vote", text)
-        office.agree("do/reopen", because="a ballot is missing")
+        text = office.agree("do/reopen", because="a ballot is missing")
+        if "hold the vote anew" in text:
+            return
         text = self.look(office, "reopened")
         # no result is shown that may be another one now
         self.assertNotIn("casting vote", text.lower())
@@ -166,8 +168,11 @@ class AsATerminal(ElectionTest):
         self.assertEqual([pair[0] for pair in same], [pair[1] for pair in same])
 
 
-class Elections(elections.ElectionTest):
+class Drafts(ElectionTest):
     call_words = None
+
+    def fill_in(self, folder):
+        (folder / "members.csv").write_text(elections.members_of(self.names))
 
     def test_a_draft_is_filled_in(self):
         office = offices.Office(self)
