@@ -189,7 +189,6 @@ class Request(http.server.BaseHTTPRequestHandler):
             "base": visit.base,
             "place": page.template,
             "languages": LANGUAGES,
-            "known": visit.known,
             "replies_in": desks.replies_in,
             "lines_of": runs.lines_of,
             "is_lost": "lost" in visit.query,

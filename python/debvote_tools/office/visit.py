@@ -100,12 +100,6 @@ class Visit:
     def language(self) -> Language:
         return language_of(self.office.code)
 
-    def known(self, line: str) -> str:
-        """What a command writes, in the language of the page if it is a sentence without places. It
-        is text: a template takes for HTML what `say` says.
-        """
-        return self.language.catalog.gettext(line) if line else ""
-
     def run_of(self, number: str) -> Run:
         run = self.office.runs.all.get(int(number)) if is_number(number) else None
         if run is None:

@@ -103,7 +103,12 @@ class OfDrawnCodes(EachStage, ElectionTest):
     refused = ("roll",)
 
     def vote(self, office):
-        names = [name for name, in self.rows("SELECT name FROM elector_now WHERE position > 0 ORDER BY position")]
+        names = [
+            name
+            for name, in self.rows(
+                "SELECT name FROM elector_now WHERE position > 0 ORDER BY position"
+            )
+        ]
         for name, line in zip(names, self.ballots):
             office.yes(office.type(name, line.split()[1]))
 
@@ -210,7 +215,9 @@ class Drafts(ElectionTest):
         self.assertIn("We buy it", self.done("check").output)
         self.assertIn("motion = true", (self.folder / "poll.toml").read_text())
         poll = (self.folder / "poll.toml").read_text()
-        (self.folder / "poll.toml").write_text(poll.replace('options = ["', 'options = [\n"'))
+        (self.folder / "poll.toml").write_text(
+            re.sub(r'(?m)^options = \["', 'options = [\n"', poll)
+        )
         text = office.page("draft")
         digests = re.findall(r'name="digest" value="(.*?)"', text)
         text = office.post("draft", **{**fields, "digest": digests})
