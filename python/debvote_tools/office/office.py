@@ -82,7 +82,7 @@ class Office:
             if self.folder is not None:
                 return
             with self.reading:
-                election = Election(folder, self.programs)
+                election = self.election_in(folder)
                 with contextlib.closing(election.opened.connection):
                     self.held = state.lock_of(folder)
                     if not self.is_code_given:
@@ -97,10 +97,13 @@ class Office:
             state.say_page(self.held, self.page)
 
     def election(self) -> Election:
-        """The election, whose doubts the page shows, and nothing says on standard error."""
         if self.folder is None:
             raise no_book(pathlib.Path())
-        election = Election(self.folder, self.programs)
+        return self.election_in(self.folder)
+
+    def election_in(self, folder: pathlib.Path) -> Election:
+        """An election, whose doubts the page shows, and nothing says on standard error."""
+        election = Election(folder, self.programs)
         election.book = election.opened
         return election
 

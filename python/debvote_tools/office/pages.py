@@ -8,6 +8,7 @@ from debvote_tools.files import read_at_most
 from debvote_tools.office import acts, desks, drafts, letters, own_programs, state, views
 from debvote_tools.office.office import BIG, RESULT
 from debvote_tools.office.runs import Run, lines_of
+from debvote_tools.office.views import Values
 from debvote_tools.office.visit import (
     Answer,
     File,
@@ -169,8 +170,8 @@ def roll(visit: Visit, rest: str) -> Answer:
 def draft(visit: Visit, rest: str) -> Answer:
     if rest:
         raise Refused()
-    values = {**drafts.draft_of(visit.election), "changed": [], "done": visit.run_in("done")}
-    return Page("draft", values)
+    more: Values = {"changed": [], "done": visit.run_in("done")}
+    return Page("draft", {**drafts.draft_of(visit.election), **more})
 
 
 # ---- commands

@@ -170,8 +170,8 @@ def draft(visit: Visit, rest: str) -> Answer:
     try:
         drafts.save(visit.election, visit.form)
     except drafts.Changed as changed:
-        values: Values = {"changed": changed.names, "form": visit.form, "done": None}
-        return Page("draft", {**drafts.draft_of(visit.election), **values})
+        shown = {"changed": changed.names, "form": visit.form, "done": None}
+        return Page("draft", {**drafts.draft_of(visit.election), **shown})
     return follow(visit, visit.office.runs.command("roll", places=Place(done="draft")))
 
 
