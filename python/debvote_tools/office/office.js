@@ -1,7 +1,7 @@
 "use strict";
 // nothing of the page needs this: it makes keys and clicks say the same, and leads Enter on
 const questions = [...document.querySelectorAll("fieldset[data-label]")];
-const first = (question) => question?.querySelector(".keys input, input[type=radio]");
+const first = (question) => question?.querySelector(".keys input") ?? question?.querySelector("input[type=radio]");
 for (const [place, question] of questions.entries()) {
   const keys = question.querySelector(".keys input");
   const form = question.closest("form");

@@ -1,12 +1,17 @@
 """The office in chromium: by keys alone, without script, on a telephone, in the dark."""
 
+import contextlib
 import json
+import time
 
 from tests.support import offices
-from tests.support.at_browser import NEEDS_BROWSER, Window
+from tests.support.at_browser import NEEDS_BROWSER, Gone, Window
 from tests.support.called import LettersTest
 from tests.support.letters import ballot, letter, mailbox
 from tests.support.questions import FEE, QuestionsTest
+
+# what has not come by then does not come
+SECONDS = 30
 
 # the least contrast of a text with what is behind it, of all texts that are seen
 CONTRAST = """(() => {
@@ -37,6 +42,17 @@ class Page(Window):
         super().__init__(width, height)
         self.address = office.address
         self.tell("Emulation.setScriptExecutionDisabled", value=not has_script)
+
+    def until(self, script: str):
+        """Waits until a script returns true; no promise is kept in a page without script."""
+        end = time.monotonic() + SECONDS
+        while True:
+            with contextlib.suppress(Gone, RuntimeError):
+                if self.ask(f"Boolean({script})"):
+                    return
+            if time.monotonic() > end:
+                raise AssertionError(f"it does not become true: {script}")
+            time.sleep(0.02)
 
     def go(self, place: str):
         self.tell("Page.navigate", url=self.address + place)
