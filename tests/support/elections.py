@@ -272,6 +272,16 @@ class ElectionTest(unittest.TestCase):
         type(self).is_for_everybody = True
         return self.run_program(*nobody, sys.executable, ELECTION, *words, **how)
 
+    def say_done(self, *steps: str):
+        """As a secretary who sends letters by a mail program; by default that electors are told all."""
+        for step in steps or ("receipts", "letters"):
+            self.done("status", "--done", step)
+
+    def next_told(self) -> str:
+        """What comes next once electors are told all, and all is uploaded."""
+        self.say_done()
+        return self.done("status", "--done", "upload").output
+
     def debvote(self, *words: object, **how: object) -> Ended:
         return self.run_program(PROGRAM, *words, **how)
 

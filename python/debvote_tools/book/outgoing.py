@@ -229,16 +229,18 @@ def told_letters(book: Book, call: int) -> set[tuple[int, int]]:
     return set(book.rows(query, call))
 
 
-# the receipts since an act, but for those on paper, that no server took, and none refused for good
+# the letters of a kind since an act, ?2, but for those on paper, that no server took, and none
+# refused for good
 UNSENT = """
 SELECT elector, detail ->> 'about' FROM (
-  SELECT elector, act, state, detail, max(sent) FROM sent WHERE kind = 'receipts' AND elector IN (
-    SELECT elector FROM sent WHERE kind = 'receipts' GROUP BY elector HAVING total(state = 'written') > total(state = 'taken') AND max(act) > ?1
+  SELECT elector, act, state, detail, max(sent) FROM sent WHERE kind = ?1 AND elector IN (
+    SELECT elector FROM sent WHERE kind = ?1 GROUP BY elector
+    HAVING total(state = 'written') > total(state = 'taken') AND max(act) > ?2
   ) GROUP BY detail ->> 'message_id'
-) WHERE act > ?1 AND detail ->> 'address' <> '' AND (state = 'written' OR state = 'refused' AND detail ->> 'reply' LIKE '4%')
+) WHERE act > ?2 AND detail ->> 'address' <> '' AND (state = 'written' OR state = 'refused' AND detail ->> 'reply' LIKE '4%')
 """
 
 
-def unsent_receipts(book: Book, since: int) -> list[tuple[int, list[About]]]:
+def unsent(book: Book, kind: str, after: int) -> list[tuple[int, list[About]]]:
     """The electors of these, and what each is about."""
-    return [(elector, json.loads(about)) for elector, about in book.rows(UNSENT, since)]
+    return [(elector, json.loads(about)) for elector, about in book.rows(UNSENT, kind, after)]

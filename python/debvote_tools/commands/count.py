@@ -85,12 +85,14 @@ def tell_next(election: Election, sheets: Mapping[str, Sheet]) -> None:
     that the result does not have yet.
     """
     history = election.history()
-    due = [due for due in what_next(election, history) if due.step is not Step.COUNT]
-    if not history.is_closed:
-        tell_aside("This is not the result yet.")
-    elif due[0].step in (Step.PUBLISH, Step.TIE):
-        due[0] = due[0]._replace(questions=choices_in(sheets))
-    tell_aside(next_line(election, due))
+    choices = choices_in(sheets)
+    due = [
+        one._replace(questions=choices) if one.step in (Step.PUBLISH, Step.TIE) else one
+        for one in what_next(election, history)
+        if one.step is not Step.COUNT
+    ]
+    first = "" if history.is_closed else "This is not the result yet. "
+    tell_aside(f"{first}{next_line(election, due)}")
 
 
 def choices_in(sheets: Mapping[str, Sheet]) -> dict[str, Sequence[str]]:

@@ -18,7 +18,7 @@ from debvote_tools.inbox.fates import COUNTS, NOBODY, Fate, fates_of, told_of
 from debvote_tools.inbox.rules import LetterOutcome
 from debvote_tools.inbox.stopping import pending_letters, what_stops
 from debvote_tools.outbox.reached import NO_LETTER, page_since, unreached, unreached_and_printed
-from debvote_tools.outbox.words import CORRECTED, Composer, OutgoingText
+from debvote_tools.outbox.words import CORRECTED, DECIDED, Composer, OutgoingText
 from debvote_tools.result.publication import closing_letter
 from debvote_tools.text.addresses import address_in
 from debvote_tools.text.language import language_of
@@ -430,20 +430,37 @@ def results_due(run: Run) -> LettersDue:
     # since the close no other ballot counts than in the publication
     fates = fates_of(run.election, run.history)
     counting = queries.what_counts(run.election.book)
-    ended = [act.detail.get("ended") for act in run.history.since_call("publish")]
-    is_corrected = any(earlier != ended[-1] for earlier in ended)
+    subject = subject_of_result(run.history)
     return to_each(
         run,
         act,
         lambda elector, _: run.composer.letter(
             "result",
             elector,
-            CORRECTED if is_corrected else "",
+            subject,
             answers=counting.get(elector.name),
             fates=told_of(fates[elector.name]).values(),
             letter=letter,
         ),
     )
+
+
+def subject_of_result(history: History) -> str:
+    """That of a result which differs from an earlier one: a casting vote has decided what was a
+    tie since the last close, or it is corrected. Else none of its own.
+    """
+    *before, last = history.since_call("publish")
+    subject = ""
+    for act in before:
+        ended = last.detail["ended"]
+        changed = {label: its for label, its in act.detail["ended"].items() if its != ended[label]}
+        was_decided = act in history.publications and all(
+            its["winner"] is None and ended[label]["winner"] for label, its in changed.items()
+        )
+        if not was_decided and changed:
+            return CORRECTED
+        subject = DECIDED if changed else subject
+    return subject
 
 
 OF_KINDS = {

@@ -13,7 +13,7 @@ from collections.abc import Callable, Iterator, Mapping, Sequence
 from typing import TYPE_CHECKING, NamedTuple
 
 from debvote_tools.book import outgoing, queries
-from debvote_tools.book.book import SECONDS_BACK, Detail
+from debvote_tools.book.book import SECONDS_BACK, Detail, DoneAct
 from debvote_tools.book.queries import Elector
 from debvote_tools.call.box import SCRIPT
 from debvote_tools.cli.console import act_time, count_of, tell
@@ -154,6 +154,11 @@ class Now:
         }
         return {pair: act for pair, act in told.items() if pair not in entered}
 
+    @property
+    def runs_of_reminders(self) -> list[DoneAct]:
+        runs = self.history.since_call("letters out")
+        return [act for act in runs if act.detail["kind"] == "reminders"]
+
     def for_acts(self) -> Iterator[tuple[str, int]]:
         """The kinds of letters that all electors get now, but for receipts, each with its act."""
         history = self.history
@@ -229,8 +234,9 @@ def upload(now: Now) -> Iterator[Due]:
     """The folder of the result; that of the call while people vote, if it says an address."""
     history = now.history
     done = now.done_until(Step.UPLOAD)
-    if published := history.last_publication:
-        if done < published.number:
+    # before the close people vote where the page of the call is
+    if history.is_closed and history.publications:
+        if done < history.publications[-1].number:
             yield Due(Step.UPLOAD, kind=RESULT)
         return
     if now.is_over or not history.announced("at"):
@@ -247,22 +253,41 @@ def upload(now: Now) -> Iterator[Due]:
 
 
 def letters(now: Now) -> Iterator[Due]:
-    done = now.done_until(Step.LETTERS)
-    unsent = [
+    """Receipts and reminders that were written; and what all electors get."""
+    if unsent := unsent_receipts(now):
+        yield Due(Step.LETTERS, len(unsent), "receipts")
+    if unsent := unsent_reminders(now):
+        yield Due(Step.LETTERS, len(unsent), "reminders")
+    for kind, for_act in now.for_acts():
+        if left := left_of(now, kind, for_act):
+            number = sum(bool(address_in(elector.addresses)) for elector in left)
+            yield Due(Step.LETTERS, number, kind)
+
+
+def unsent_receipts(now: Now) -> list[int]:
+    """The electors; none for a receipt about a letter in whose place there is a ballot now."""
+    return [
         elector
-        for elector, about in outgoing.unsent_receipts(now.book, done)
+        for elector, about in outgoing.unsent(now.book, "receipts", now.done_until(Step.LETTERS))
         if any(
             what == "envelope" or (elector, number) in now.letters_to_tell
             for what, number, _ in about
         )
     ]
-    if unsent:
-        yield Due(Step.LETTERS, len(unsent), "receipts")
-    for kind, for_act in now.for_acts():
-        if left := left_of(now, kind, for_act):
-            yield Due(
-                Step.LETTERS, sum(bool(address_in(elector.addresses)) for elector in left), kind
-            )
+
+
+def unsent_reminders(now: Now) -> list[int]:
+    """The electors who have not voted since. A run of another day is a new one."""
+    runs = [] if now.is_over else now.runs_of_reminders
+    since = [act.number - 1 for act in runs if now.time - act.time < DAY]
+    if not since:
+        return []
+    after = max(since[0], now.done_until(Step.LETTERS))
+    counting = queries.what_counts(now.book)
+    silent = {elector.number for elector in now.electors if elector.name not in counting}
+    return [
+        elector for elector, _ in outgoing.unsent(now.book, "reminders", after) if elector in silent
+    ]
 
 
 def left_of(now: Now, kind: str, for_act: int) -> list[Elector]:
@@ -311,9 +336,8 @@ def reminders(now: Now) -> Iterator[Due]:
     until = history.until
     if until is None or now.is_over or now.time < until - BEFORE_END or not history.runs_of_call:
         return
-    runs = [act for act in history.since_call("letters out") if act.detail["kind"] == "reminders"]
     is_soon = now.time - history.runs_of_call[-1].time < DAY
-    if is_soon or any(act.time >= until - BEFORE_END for act in runs):
+    if is_soon or any(act.time >= until - BEFORE_END for act in now.runs_of_reminders):
         return
     if (number := len(now.electors) - queries.numbers(now.book).voters) > 0:
         yield Due(Step.REMINDERS, number)
@@ -323,9 +347,8 @@ def ending(now: Now) -> Iterator[Due]:
     """The close and what follows it, or what has to come before."""
     history = now.history
     if not history.is_closed:
-        yield Due(Step.CLOSE) if now.is_over or not history.until else Due(
-            Step.WAIT, time=history.until
-        )
+        is_to_come = history.ends_after(now.time) and not history.closes
+        yield Due(Step.WAIT, time=history.until) if is_to_come else Due(Step.CLOSE)
         return
     if not history.publications:
         yield from (Due(Step.COUNT), Due(Step.PUBLISH))
@@ -482,6 +505,7 @@ def next_place(election: Election) -> list[str]:
 OF_KIND = {
     "call": ("letter of the call", "letters of the call"),
     "receipts": ("receipt", "receipts"),
+    "reminders": ("reminder", "reminders"),
     "closed": ("letter of the close", "letters of the close"),
     "result": ("letter of the result", "letters of the result"),
 }
@@ -496,11 +520,12 @@ def letters_words(election: Election, due: Due) -> str:
     is_of_slips = election.questions.is_secret and not history.is_secret_by_click
     if due.kind == "call" and is_of_slips and not history.runs_of_call:
         file = file_of(election, history, due.kind)
-        return f"{write} writes letters, with the codes; or hand out the slips, send {file} to all, then {done}"
+        return f"letters with the codes: {write}; or hand out the slips, and send {file} to all, then {done}"
     one, several = OF_KIND[due.kind]
     if not due.number:
         return f"{several} are to be printed: {write}"
-    send = sending(election)
+    # without a kind no reminders are sent
+    send = sending(election, *(["reminders"] if due.kind == "reminders" else []))
     if due.kind == "result" and not history.announced("at"):
         send = f"{sending(election, 'result')} --at URL"
     is_one = due.number == 1

@@ -39,6 +39,7 @@ SUBJECTS = marked(
 )
 # in place of that of the call: if it said an end, and if not
 CORRECTED = marked("Corrected result: {title}")
+DECIDED = marked("Result after the casting vote: {title}")
 EXTENSION = marked("Vote ends later: {title}")
 END_SAID = marked("When the vote ends: {title}")
 

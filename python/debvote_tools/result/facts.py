@@ -151,6 +151,16 @@ class VoteFacts(NamedTuple):
             if act.labels is None or any(label in act.labels for label in labels)
         ]
 
+    def replaced(self, labels: Collection[str]) -> list[Act]:
+        """The earlier publications, but for those since the close that holds: since then a casting
+        vote alone can change the result, and what was done tells of them.
+        """
+        acts = self.acts_about(labels)
+        if self.closed is not None:
+            closes = [number for number, act in enumerate(acts) if act.done == "closed"]
+            acts = acts[: closes[-1]]
+        return [act for act in acts if act.done == "published"]
+
 
 class QuestionFacts(NamedTuple):
     """The facts of a question, with those of its vote."""

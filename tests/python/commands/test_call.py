@@ -129,7 +129,7 @@ class Again(CallTest):
         self.tells(
             f"call {LATER}",
             "Made letters/extension.txt, the letter to all that says so.\n",
-            "; then debvote-election letters --send sends the letters, or debvote-election letters call writes them; enter",
+            "Next: 9 letters of the call are not sent: debvote-election letters --send --server HOST; or by your mail program: debvote-election letters call, then debvote-election status --done letters\n",
         )
         self.set_clock("2026-12-05T20:00:00+01:00")
         # in the zone of the end before
@@ -142,7 +142,7 @@ class Again(CallTest):
         self.refused("close", SECOND)
         self.tells("close --early", "the announced end of the vote has not come yet")
         self.refused("call --until '2027-01-01 12:00'", "closed")
-        self.assertNotRegex(self.told("call"), "send|letters call")
+        self.assertNotRegex(self.told("call"), "of the call are not sent")
 
     def test_a_run_that_was_killed_is_repeated_with_its_words(self):
         """It was killed after its act, before it made the folders: it makes them, and does nothing else."""
@@ -480,7 +480,11 @@ class Secret(CallTest):
         self.assertNotIn("receipt", self.texts())
         self.assertIsNone(self.numbers()["without_ballot"])
         # they lapse with the call
-        self.tells("call --take-back", "then run debvote-election roll\n")
+        self.tells(
+            "call --take-back",
+            "\nPut right what was wrong.\nNext: write the members into",
+            "then run: debvote-election roll\n",
+        )
         self.assertEqual(self.files("private"), [])
         self.refused("codes --on-roll", "debvote-election roll")
         self.write("members.csv", f"{MEMBERS}Jan,jan@club.example\n")
@@ -490,7 +494,7 @@ class Secret(CallTest):
         after = set(re.findall(r"\b([2-9a-hjkmnp-z]{10}) _", self.texts("private/slips.html")))
         self.assertEqual((len(after), codes & after), (10, set()))
         # nobody can be written to, and all have the call
-        said = "; then send letters/extension.txt to all electors; enter"
+        said = "\nNext: send letters/extension.txt to all electors, then debvote-election status --done letters\n"
         self.tells("call --until '2099-12-04 12:00'", said)
         self.assertIn("is void", self.texts())
 
@@ -504,8 +508,10 @@ class Secret(CallTest):
         subject = rf"<b>\[{read_plain(self.read('call/poll.toml')).checksum[:16]}-(\w{{10}})\]</b>"
         self.assertEqual(re.findall(subject, slip), [*self.marks().values()])
         self.assertNotIn(" is void", slip + self.texts())
-        said = r"All 9 codes are void(?s:.*)\nNext: put right what was wrong, then run debvote-election codes\n"
+        said = r"All 9 codes are void(?s:.*)\nPut right what was wrong.\nNext: debvote-election check\n"
         self.assertRegex(self.told("call --take-back"), said)
+        said = "\nNext: debvote-election check\nThen: the vote is secret, and electors have no codes yet: debvote-election codes\nThen: "
+        self.tells("status", said)
         self.assertEqual(self.files("private"), [])
         self.write("members.csv", f"{MEMBERS}Jan,jan@club.example\n")
         self.done("roll")
@@ -547,10 +553,10 @@ class Secret(CallTest):
         # after the call, too; to call again would only make the vote longer
         self.done(f"call {UNTIL}")
         self.refused("codes --on-roll", *too_late)
-        following = "\nNext: debvote-election status\n"
+        following = "\nNext: letters with the codes: debvote-election letters call; or hand out the slips, and send call/call.txt to all, then debvote-election status --done letters\n"
         said = self.told("codes")
         self.assertTrue(said.startswith("The slips: private/slips.html. Print them.\n"), said)
         self.assertTrue(said.endswith(following), said)
         self.done("close --early --yes")
         for command in ("codes", "call"):
-            self.assertTrue(self.told(command).endswith(following))
+            self.assertIn("\nNext: 9 letters of the close are not sent: ", self.told(command))

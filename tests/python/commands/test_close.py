@@ -32,9 +32,15 @@ class Close(LettersTest):
         [closed] = [act.digest for act in self.book.acts() if act.name == "close"]
         self.assertRegex(letter.decode(), "(?s)3 lines came in time.*" + ".*".join([*sums, closed]))
         self.assertIn(f"Checksum of the ballots: {sums[1]}", ended)
-        following = "debvote-election letters --send, or your mail program, sends these letters; then debvote-election count"
+        following = (
+            "2 receipts are not written: debvote-election letters receipts --send --server HOST"
+        )
         ready = f"\nReady: 9 letters, letters/closed/{self.last_act() - 1}\nNext: {following}\n"
         self.assertTrue(ended.endswith(ready), ended)
+        self.say_done("receipts")
+        self.tells("close", "\nNext: 9 letters of the close are not sent: ")
+        self.say_done("letters")
+        self.tells("close", "\nNext: debvote-election count\n")
         self.write("letters/closed.txt", "another")
         self.assertIn("late", self.add_lines("ada 4,3,2,1"))
         acts = self.last_act()
@@ -179,7 +185,11 @@ class Asked(LettersTest):
         asked = "Is that all? It is if the mailbox was added just now, all paper is entered, and no desk is open."
         for answer in ("n\n", "\x04"):
             shown, ended = self.closed(answer)
-            self.assertEqual(shown, f"Until now 2 lines came in time. {last}\n{asked} [y/n] ")
+            receipts = (
+                "5 receipts are not written: debvote-election letters receipts --send --server HOST"
+            )
+            shown_before = f"Until now 2 lines came in time. {last}\n{receipts}\n{asked} [y/n] "
+            self.assertEqual(shown, shown_before)
             self.assertIn("you did not say that this is all; nothing was changed", ended[0])
         self.assertEqual(self.numbers()["stage"], "called")
         _, (output, status) = self.closed("y\n", lambda: self.cast("cleo 1,2,3,4"))
@@ -248,8 +258,11 @@ class Reopen(LettersTest):
         self.assertRegex(self.told("status"), r"\nClosed: at [^\n]* UTC\nQuorum")
         self.done("publish")
         self.assertEqual(self.numbers()["stage"], "published")
-        following = "; then debvote-election letters --send sends the letters, or debvote-election letters result writes them\n"
-        self.assertTrue(self.told("status").endswith(following))
+        self.say_done()
+        nothing = "nothing is left; if somebody asks about a ballot, debvote-election show NAME says what came\n"
+        following = "\nNext: put the folder result on the web site as it is, then debvote-election status --done upload\n"
+        self.assertTrue(self.told("status").endswith(f"{following}Then: {nothing}"))
+        self.tells("status --done upload", f"Next: {nothing}")
         self.refused("reopen", "reason", status=2)
         self.done("reopen --because x")
         self.refused("reopen --because x", "not closed")
@@ -272,7 +285,7 @@ class Told(LettersTest):
             "Electors without a ballot (7):\n  ben cleo dan eve gus hal ida\n",
             "Refused lines of electors without a ballot to the question, or of nobody known (2):\n  envelope 2: ben 1,2\n    bad rank count: ",
             "\n  envelope 3: zoe 1,2,3,4\n    bad not on roll: zoe is not on the roll\nLast act: ",
-            "Next: add the ballots as they come",
+            "Next: 3 receipts are not written: debvote-election letters receipts --send --server HOST\nThen: 9 letters of the call are not sent: ",
         )
         self.assertNotIn("fay 1,2", output)
         self.done("strike 1 --because 'it was hers who asked'")

@@ -22,6 +22,7 @@ class Count(CalledTest):
 
     def assert_counted(self, words: str, status: int, *parts: str):
         """The sheet alone goes to standard output, and the sentence on standard error has these parts."""
+        self.say_done()
         out = self.scratch / f"out{len(os.listdir(self.scratch))}"
         ended = self.election(f"count {words}")
         self.done("export", out)
@@ -34,27 +35,33 @@ class Count(CalledTest):
     def test_an_option_that_has_won(self):
         self.adds(WON)
         before = self.contents()
-        said = "this is not the result yet: when the vote is over, run debvote-election close, then debvote-election publish"
+        said = "This is not the result yet. Next: debvote-election close, when the vote is over; until then"
         self.assert_counted("", 0, said)
         self.assertEqual(self.contents(), before)
         self.done("close")
-        self.assert_counted("", 0, "Next: debvote-election publish")
+        self.assert_counted("", 0, "Next: debvote-election publish\n")
 
     def test_a_tie_and_the_casting_vote(self):
-        """A struck line does not count, nor a late one: each would decide it."""
+        """A struck line does not count, nor a late one: each would decide it. Everybody sees the tie before it is decided."""
         self.adds(WON)
         self.done("strike 5 --because 'it was taken down wrongly'")
         cast = "--cast-by WHO --cast-on DATE"
         choose = "it is a tie between 'At the lake', Hall; the holder of the casting vote chooses one of them: "
         choose += f"debvote-election publish --casting 'At the lake' {cast} or debvote-election publish --casting Hall {cast}\n"
-        now = "Next: this is not the result yet: when the vote is over, run debvote-election close; now "
-        self.assert_counted("", 1, f"{now}{choose}")
+        self.assert_counted("", 1, "This is not the result yet. Next: debvote-election close")
         self.done("close")
         self.adds("fay 1,2,4,3\n")
-        self.assert_counted("", 1, f"Next: {choose}")
-        following = f"Next: debvote-election publish --casting Hall {cast}\n"
-        self.assert_counted("--casting Hall", 0, following)
-        not_tied = "'Further discussion' is not among them"
+        first = "Next: debvote-election publish, and debvote-election letters --send, so that everybody sees the tie before the casting vote; then "
+        self.assert_counted("", 1, f"{first}{choose}")
+        hall = f"debvote-election publish --casting Hall {cast}\n"
+        self.assert_counted("--casting Hall", 0, f"{first}{hall}")
+        self.assertEqual(self.election("publish").status, 1)
+        upload = "Next: put the folder result on the web site as it is, then debvote-election status --done upload; then "
+        for words, status, following in (("", 1, choose), ("--casting Hall", 0, hall)):
+            self.assert_counted(words, status, f"{upload}{following}")
+        self.say_done("upload")
+        self.assertIn(f"Next: {choose}", self.election("publish").output)
+        not_tied = f"Next: {choose}"
         self.assert_counted("--casting 'Further discussion'", 8, not_tied)
         self.refused(
             "count --casting Hall --casting 'At the lake'",
@@ -92,7 +99,7 @@ class Count(CalledTest):
         self.adds("ada 1,2,4,3\n")
         ended = self.election("count --casting 'At the lake'")
         note = "Note: it is no tie, so no casting vote decides it; what --casting says of it is not told.\n"
-        self.assertEqual((ended.status, ended.faults.partition("Next: ")[0]), (0, note))
+        self.assertEqual((ended.status, ended.faults.partition("This is ")[0]), (0, note))
 
     def test_output_that_nobody_reads_to_its_end(self):
         """It ends quietly, with the status of an output that failed, as that of debvote."""

@@ -42,7 +42,7 @@ class AtATerminal(TerminalTest):
         desk.after("YES\n", "\n2 replaced  ada\n", "Ballot: ")
         desk.ends(
             "q\n",
-            "This desk has entered 2 lines (1 counted, 1 replaced).\nNext: debvote-election status\n",
+            "This desk has entered 2 lines (1 counted, 1 replaced).\nNext: 1 receipt is not written: debvote-election letters receipts --send",
         )
         self.assertEqual(self.acts(), [("desk", {"lines": 1})] * 2)
         self.assertEqual(
@@ -62,7 +62,9 @@ class AtATerminal(TerminalTest):
             desk = self.at_terminal()
             desk.after(f"ada {RANKS}\n", CAST)
             # and no traceback
-            self.assertRegex(desk.ends(key), r"^[^T]*This desk has entered 0 lines\.\n[^T]*$")
+            self.assertRegex(
+                desk.ends(key), r"^[^T]*This desk has entered 0 lines\.\nNext: 9 letters .*\n$"
+            )
         self.assertEqual(self.last_act(), before)
 
     def test_a_refused_line_is_told_once_and_may_be_cast(self):

@@ -153,15 +153,17 @@ class AfterTheCall(RollTest):
             f"ada: address {becomes}",
             "1 elector changed; the result page says how many",
         )
-        following = "\nNext: debvote-election letters call, for the new addresses\n"
-        self.assertTrue(said.endswith(following), said)
+        self.assertIn("\nNext: 9 letters of the call are not sent: ", said)
         self.assertEqual(self.on_roll(), elections.NAMES)
         # a key changes once
         keys = "A" * 40, *[""] * 8
         self.roll(*map(",".join, zip(changed, keys)), head="who,mail,key")
-        self.tells("roll --yes", "1 elector changed")
-        said = r"Nothing was changed(?s:.*)\nNext: debvote-election status\n$"
-        self.assertRegex(self.told("roll"), said)
+        self.say_done("letters")
+        # a key alone is no news
+        self.tells("roll --yes", "1 elector changed", "\nNext: debvote-election close, when ")
+        self.assertIn("Nothing was changed", self.told("roll"))
+        self.roll(*ROWS[:1], *changed[1:])
+        self.tells("roll --yes", "\nNext: 1 letter of the call is not sent: ")
 
     def test_each_change_is_asked_about(self):
         """And what another `roll` has changed meanwhile stays."""
@@ -284,5 +286,6 @@ class Check(RollTest):
 
     def test_secret(self):
         self.assertIn(
-            "Next: debvote-election codes", self.check(elections.POLL + "secret = true\n").output
+            "Next: the vote is secret, and electors have no codes yet: debvote-election codes",
+            self.check(elections.POLL + "secret = true\n").output,
         )

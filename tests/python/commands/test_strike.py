@@ -17,7 +17,7 @@ class Strike(CalledTest):
 
     def test_the_line_and_what_stands_then(self):
         said = f"Struck envelope 3: `ada {OTHER_RANKS}`, because: it was pencil\nAnother ballot of ada counts: {LAKE}\n"
-        said += "A strike cannot be undone: if it was a mistake, enter the line again.\nNext: debvote-election status\n"
+        said += "A strike cannot be undone: if it was a mistake, enter the line again.\nNext: 2 receipts are not written: debvote-election letters receipts --send --server HOST\n"
         self.assertEqual(self.told(f"strike 3 {WHY}"), said)
         self.assert_lines(f"ada {RANKS}", f"ben {RANKS}", "x")
         self.assertEqual(self.acts()[-1], ("strike", {"envelope": 3, "because": "it was pencil"}))

@@ -28,14 +28,16 @@ class Undo(CalledTest):
             )
             self.assert_lines(f"ada {RANKS}", f"ben {RANKS}")
         self.cast(f"dan {RANKS}")
-        next_one = "Next: debvote-election status; another debvote-election undo takes back the act before\n"
+        next_one = (
+            "Another debvote-election undo takes back the act before.\nNext: 4 receipts are .*\n"
+        )
         said = rf"^Took back 1 line \(act {first + 5}: desk, [-\d]+ [:\d]+ UTC, envelope 9\)\.\n  dan: no ballot is left\n{next_one}$"
         self.assertRegex(self.told("undo"), said)
         # the one before that is not taken back yet; before it is none
         said = (
             rf"^Took back 2 lines \(act {first}: add of standard input, .* UTC, envelopes 1-2\)\.\n"
         )
-        self.assertRegex(self.told("undo"), rf"{said}(?s:.*)\nNext: debvote-election status\n$")
+        self.assertRegex(self.told("undo"), rf"{said}  [^A]*\nNext: .*\n$")
         self.assert_lines()
         self.assert_refused("undo", 9, NOTHING)
         self.assertEqual(
@@ -54,7 +56,7 @@ class Undo(CalledTest):
         for number in (3, 1):
             self.told(f"strike {number} --because 'a test'")
         left = "  ada: no ballot is left\n  cleo: no ballot is left\n"
-        said = rf"^Took back 2 lines \(act .*, envelopes 2, 4\)\.\n{left}Next: "
+        said = rf"^Took back 2 lines \(act .*, envelopes 2, 4\)\.\n{left}Next: 3 receipts "
         self.assertRegex(self.told("undo"), said)
         struck = [envelope.struck - self.first_act for envelope in self.envelopes()]
         self.assertEqual(struck, [3, 4, 2, 4])
@@ -79,7 +81,7 @@ class Undo(CalledTest):
         # a late line counts for nothing when a later one is taken back, and has changed nothing that stands
         self.told("add --came-before-close yes", given=f"ben {OTHER_RANKS}\n")
         self.tells("undo", "\n  ben: no ballot is left\n")
-        self.assertRegex(self.told("undo"), r"^Took back 1 line \(.*, envelope 2\)\.\nNext: ")
+        self.assertRegex(self.told("undo"), r"^Took back 1 line \(.*, envelope 2\)\.\nAnother ")
         self.assertEqual((self.lines(), self.late_lines()), ([f"ada {RANKS}"], []))
 
     def test_what_is_not_entered_again_is_told(self):
@@ -166,7 +168,7 @@ class AtATerminal(CalledTest):
         terminal.ends("y\n")
         self.assert_lines(*lines)
         shown = self.asked().ends("y\n")
-        self.assertRegex(shown, r"Took back 3 lines \(.*\)\.\nNext: ")
+        self.assertRegex(shown, r"Took back 3 lines \(.*\)\.\nAnother ")
         self.assert_lines(f"ada {RANKS}")
         shown = Terminal(self, "undo", "--yes").ends("")
         self.assertRegex(shown, r"^[^[]*  ada: no ballot is left\n[^[]*$")

@@ -20,7 +20,7 @@ RIGHT = (
     "A ballot line of this poll: `ada 2,3,4,1`: the ranks of 1 At the lake, 2 In the town hall, 3 Sell the house and meet there, "
     "4 Further discussion; 1 is the best"
 )
-NEXT = "Next: debvote-election status; add more ballots with debvote-election add FILE, and when the vote is over: debvote-election close"
+NEXT = "Next: 2 receipts are not written: debvote-election letters receipts --send --server HOST"
 
 # how many lines an election takes in this test; fewer than debvote takes are quick
 MOST_LINES = int(os.environ.get("DEBVOTE_MOST_LINES", LINES_LIMIT))
@@ -58,7 +58,10 @@ class Added(CalledTest):
         self.assertEqual([envelope.source for envelope in self.envelopes()], [1, 2, 3])
         self.assertEqual([name for name, _ in self.acts()], ["add"])
         (self.scratch / "more").write_text("dan 1,2,4,3\n")
-        said = "4 counted  dan: ", "Next: debvote-election status --folder election; "
+        said = (
+            "4 counted  dan: ",
+            "Next: 4 receipts are not written: debvote-election letters --folder election receipts --send",
+        )
         self.tells("--folder election add more", *said, cwd=self.scratch)
 
     def test_the_number_the_elector_and_the_words_of_a_line(self):
@@ -281,8 +284,9 @@ class AfterTheEnd(CalledTest):
             "ada 2,1,4,3\nben x\n",
             f"3 late  ada: {HALL}\n",
             f'4 late  ben x: bad shape: column 5: "x"; {hint}\n',
-            "2 lines came after the close, and late lines do not count.\nAdded 2 lines (2 late).\nNext: debvote-election count\n",
+            "2 lines came after the close, and late lines do not count.\nAdded 2 lines (2 late).\nNext: 2 receipts are not written: ",
         )
+        self.assertEqual(self.next_told(), "Next: debvote-election count\n")
         self.assertRegex(
             output,
             r"^Note: the vote was closed at \d{4}-\d\d-\d\d \d\d:\d\d:\d\d UTC\+01:00; what is added now is late\.\n",

@@ -60,6 +60,7 @@ class Before(CalledTest):
             letter = act.insert("letter", source=source, identity="1", known="{}")
             envelope = queries.NewEnvelope(f"eve {RANKS}".encode(), "", source, letter)
             queries.add_envelopes(act, [envelope], [self.elector("eve")], is_late=False)
+            queries.decide(act, letter, queries.ENTERED)
         self.cast(f"eve {OTHER_RANKS}")
         self.adds(f"eve {RANKS}\n", "12 replaced  eve: ")
         # refused lines are known by their text

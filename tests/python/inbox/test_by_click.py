@@ -60,7 +60,7 @@ class CallWithBox(elections.ElectionTest):
         for part in (
             "0 * * * * XDG_STATE_HOME=",
             f"debvote-election add --folder {self.folder} --box --yes",
-            "upload the files of call to https://club.example/vote/, vote.php too; then debvote-election letters --send sends the letters, or debvote-election letters call writes them, and tries first whether the page takes ballots; enter",
+            "upload the files of call to https://club.example/vote/, vote.php too; then debvote-election add --box; then 9 letters of the call are not sent: debvote-election letters --send --server HOST --from ADDRESS; or",
         ):
             self.assertIn(part, said)
         script = self.read("call/vote.php")

@@ -83,7 +83,7 @@ class Letters(AskedTest):
         self.done("letters call")
         # what lies at the address of now is fetched first
         following = "\nNext: run debvote-election add --box, then upload the files of call to"
-        self.assertIn(following, self.told("call"))
+        self.assertIn(following, self.told("call --until '2099-12-06 18:00'"))
         # nor is an asking at another address one
         self.move()
         self.demand_unseen("call", "reminders")
@@ -114,8 +114,9 @@ class Letters(AskedTest):
 
     def test_what_comes_next(self):
         """What `add --box` and `roll` say."""
-        send = "debvote-election letters --send sends the letters, or debvote-election letters call writes them"
-        upload = "upload call/vote.php again, since these electors have new links; then debvote-election letters call, for the new addresses"
+        send = "9 letters of the call are not sent: debvote-election letters --send --server HOST; or by your mail program: debvote-election letters call, then debvote-election status --done letters"
+        one = send.replace("9 letters of the call are", "1 letter of the call is")
+        upload = f"upload call/vote.php again, since electors have new links; then debvote-election add --box; then {one}"
 
         def demand(following: str, said: str):
             self.assertEqual(said.splitlines()[-1], f"Next: {following}")
@@ -123,20 +124,28 @@ class Letters(AskedTest):
         self.call()
         demand(send, self.told("add --box"))
         self.done("letters call")
-        demand("debvote-election status", self.told("add --box"))
+        self.say_done("letters")
+        # the book has the key of the box
+        wait = "until Saturday, {} December 2099, 18:00 (UTC+01:00) ballots come: debvote-election add FILE, or debvote-election desk"
+        backup = "copy the book to another disk: debvote-election backup FILE; then "
+        self.assertIn(f"Next: {backup}until Friday, 4 ", self.told("add --box"))
+        self.done("backup", self.scratch / "copy.db")
         self.done("call --until '2099-12-05 18:00'")
         self.upload()
         demand(send, self.told("add --box"))
-        self.done("letters call")
+        self.say_done("letters")
         demand(upload, self.new_address("ada"))
-        demand("debvote-election status", self.told("roll --yes"))
         self.upload()
-        self.done("letters call")
+        demand(one, self.told("add --box"))
+        self.say_done("letters")
+        demand(wait.format(5), self.told("roll --yes"))
         self.set_clock("2099-12-05T18:00:01+01:00")
-        demand("debvote-election close", self.told("add --box"))
+        demand(f"{backup}debvote-election close", self.told("add --box"))
+        self.say_done("backup")
         self.later()
         self.done("add --box")
         self.done("close --early")
+        self.say_done("letters")
         self.later()
         demand("debvote-election count", self.told("add --box"))
 
@@ -156,7 +165,7 @@ class Closes(AskedTest):
         self.later()
         note = "Note: the page still takes ballots, and says that they arrived: debvote-election count asks for them once more."
         self.assertIn(note, self.told("close --early"))
-        self.assertIn("\nNext: debvote-election count, then", self.told("status"))
+        self.assertIn("\nThen: debvote-election count\nThen: ", self.told("status"))
         fault = "--box: the web box was not asked since the vote was closed early"
         (self.web / "vote.php").rename(self.web / "away")
         for words in ("count", "letters closed"):
@@ -469,8 +478,10 @@ class Moved(AskedTest):
         note = f"\nNote: the page at {before} still takes ballots, which add --box fetches no more: remove its vote.php, then fetch its file {file.name} by FTP, and add it: debvote-election add FILE.\n"
         self.assertIn(note, said)
         # nothing lies at the new address yet
-        following = f"\nNext: upload the files of call to {self.host.at}, vote.php too; then debvote-election letters --send"
-        self.assertIn(following, said)
+        following = f"\nNext: upload the files of call to {self.host.at}, vote.php too; then debvote-election add --box; then "
+        self.assertIn(f"\nNext: 1 receipt is not written: ", said)
+        self.say_done()
+        self.assertIn(following, self.told("call"))
         self.upload()
         # what the other host had is not missed here, nor does its clock say anything of this one
         self.host_off(-50)

@@ -95,7 +95,7 @@ class Listed(HeldTest):
             rows += "".join(f"        {line}\n" for line in lines)
         self.assertEqual(
             without_marks(self.add(*letters)),
-            f"8 new letters; 0 came before.\n{rows}0 ballots of letters went in; 8 letters wait.\nNext: debvote-election held, which lists the letters that wait\n",
+            f"8 new letters; 0 came before.\n{rows}0 ballots of letters went in; 8 letters wait.\nNext: 8 letters wait: debvote-election held\n",
         )
         listed = f"{rows}8 letters wait.\nNext: debvote-election held 1 shows one; --enter enters its ballot, "
         self.assertEqual(without_marks(self.told("held"))[: len(listed)], listed)
@@ -167,7 +167,7 @@ class Entered(HeldTest):
         self.assertEqual(self.acts()[-1], ("enter", {"letters": [1], "lines": [3]}))
         self.tells("held 1", "It was entered.")
         # one that waits stops no count before the close
-        self.assertIn("this is not the result yet", self.election("count").faults)
+        self.assertIn("This is not the result yet", self.election("count").faults)
         said = "letter 1: its ballot{} was entered; nothing was changed: {}".format
         self.stops("1 --enter --yes", said(" of ada", "there is nothing to do"))
         for words in ("--set-aside", "--wait"):

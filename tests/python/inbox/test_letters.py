@@ -69,7 +69,7 @@ class Adding(LettersTest):
             ballot("dan", sender="s@x.example"),
             says=(
                 "4 new letters; 1 came before.",
-                "\nNext: debvote-election held, which lists the letters that wait; debvote-election undo takes back ",
+                "\ndebvote-election undo takes back what was entered last.\nNext: 2 letters wait: debvote-election held\n",
                 f"letter  arrived                  from              subject\n{row}",
                 "]\n        no ballot found\n        written: I vote for the lake.\n",
                 "it came from s@x.example, but the list of members has dan@club.example for dan",
@@ -94,9 +94,9 @@ class Adding(LettersTest):
         self.assertEqual((said.count("no ballot found"), "4 letters wait" in said), (1, True), said)
 
     def test_undo_is_named_where_something_can_be_taken_back(self):
-        said = r"\nNext: debvote-election held, which lists the letters that wait\n\Z"
+        said = r"\n0 ballots of letters went in; 1 letter waits.\nNext: 1 letter waits: debvote-election held\n\Z"
         self.assertRegex(self.add_hello("ada"), said)
-        said = r"; debvote-election undo takes back what was entered last\n\Z"
+        said = r"\ndebvote-election undo takes back what was entered last.\nNext: [^\n]*\n\Z"
         self.assertRegex(self.add(ballot("ben")), said)
         self.told("strike 1 --because 'a test'")
         self.assertNotIn("undo", self.add_hello("cleo"))
@@ -339,12 +339,14 @@ class Adding(LettersTest):
         for number in (1, 3, 4, 5):
             self.assertEqual(self.election(f"held {number} --enter --yes").status, 9)
             self.agrees(f"{number} --enter --force not-tied --force voted-since")
-            self.tells("undo --yes", "; debvote-election held lists these letters\n")
+            self.assertRegex(
+                self.told("undo --yes"), "\nNext: [34] letters wait: debvote-election held\n"
+            )
 
     def test_undo_and_strike_of_ballots_of_letters(self):
         box = *map(ballot, ("ada", "ben", "cleo")), letter("dan", "hello")
         self.add(*box)
-        self.tells("undo --yes", "debvote-election held lists these letters\n")
+        self.tells("undo --yes", "\nNext: 4 letters wait: debvote-election held\n")
         self.assertEqual(self.lines(), [])
         self.tells("held", "its ballot was taken back")
         self.assert_refused("close", 9, "these letters arrived in time, and wait: 1, 2, 3, 4")
@@ -481,7 +483,8 @@ class InTime(LettersTest):
         self.tells(
             "status",
             f"These arrived in time, and count and publish stop while they wait: {number}\n",
-            "\nNext: debvote-election held, then debvote-election count, then debvote-election publish\n",
+            "\nNext: 1 letter waits: debvote-election held\n",
+            "\nThen: debvote-election count\nThen: debvote-election publish\n",
         )
         self.assertEqual(self.numbers()["stopping"], [number])
 

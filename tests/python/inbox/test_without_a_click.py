@@ -55,7 +55,7 @@ class Forty(LettersTest):
         self.assertEqual({*slips}, {f"{self.mark}-{own}" for own, in owns})
         said = self.add(*letters)
         self.assertIn("\n18 ballots of letters went in; 13 letters wait.\n", said)
-        self.assertIn("\nNext: debvote-election held, which lists the letters that wait;", said)
+        self.assertIn("\nNext: 13 letters wait: debvote-election held\n", said)
         asked = " ".join(map(str, by_way[ENTER]))
         self.agrees(f"{asked} --enter", times=len(by_way[ENTER]))
         for number in by_way[FORCE]:

@@ -8,6 +8,7 @@ from tests.support.outgoing import MailServer, SendTest, parsed
 from tests.support.web_host import NEEDS_PHP
 
 AT_LAST = "There is no letter to send: the server has taken all that are due.\n"
+RECEIPT = "Next: 1 receipt is not written: debvote-election letters receipts --send\n"
 
 
 class Ready(SendTest):
@@ -24,12 +25,15 @@ class Ready(SendTest):
             for one in self.server.taken
         ]
         self.assertEqual(found, [(name, subject) for name in names])
-        self.assertEqual(AT_LAST in ended.output, not (names or status))
+        # not while receipts are due
+        self.assertEqual(AT_LAST in ended.output, not (names or status or RECEIPT in ended.output))
         return ended
 
     def test_a_whole_vote(self):
-        said = "\nReady: 3 letters of the call\nNext: put call on the web site; then debvote-election letters --send sends "
+        # so many as can be sent
+        said = "\nNext: put call on the web site, then debvote-election status --done upload; then 2 letters of the call are not sent: debvote-election letters --send --server HOST; or"
         self.assertIn(said, self.done("call").output)
+        self.say_done("upload")
         said = self.assert_sent_by_all("Vote", "ada", "ben").output
         self.assertIn("Without an address: cleo. Print letters/call/", said)
         self.assertIn("call: Sent 2 of 2 letters.\n", said)
@@ -37,23 +41,26 @@ class Ready(SendTest):
         # an extension is another call
         self.extend("2026-12-04 19:00")
         self.assert_sent_by_all("Vote ends later", "ada", "ben")
-        # a receipt that nobody has made is not sent, nor a reminder; one that was written is
-        self.add_lines("ada 1,2,4,3")
-        self.assert_sent_by_all("")
+        # a receipt that nobody has made is not sent, but named, nor a reminder; one that was written is
+        self.say_done("upload")
+        self.assertIn(RECEIPT, self.add_lines("ada 1,2,4,3"))
+        self.assertIn(RECEIPT, self.assert_sent_by_all("").output)
         for kind in ("receipts", "reminders"):
             self.done("letters", kind)
-        self.assert_sent_by_all("Receipt", "ada")
+        self.assertNotIn(RECEIPT, self.assert_sent_by_all("Receipt", "ada").output)
         self.add_lines("ada 2,1,4,3")
-        self.assert_sent_by_all("")
+        self.assertIn(RECEIPT, self.assert_sent_by_all("").output)
         # `close` and `publish` say which are ready, and where
         said = self.done("close", "--early").output
         place = f"letters/closed/{self.last_act() - 1}"
         ready = (
             f"\nWithout an address: cleo. Print {place}/to-print.html.\nReady: 2 letters, {place}\n"
         )
-        self.assertIn(ready, said)
-        next_ = "\nNext: debvote-election letters --send, or your mail program, sends these letters; then debvote-election count\n"
-        self.assertIn(next_, said)
+        self.assertIn(f"{ready}{RECEIPT}", said)
+        self.done("letters", "receipts", "--send")
+        self.assertEqual(self.server.taken.pop().to, "ada@club.example")
+        next_ = "\nNext: 2 letters of the close are not sent: debvote-election letters --send; or by your mail program: debvote-election letters closed, then "
+        self.assertIn(next_, self.done("close").output)
         found = [file.name for file in (self.folder / place).iterdir()]
         self.assertEqual(sorted(found), ["ada.eml", "ben.eml", "to-print.html"])
         self.assertEqual(self.rows("closed"), [(name, "written") for name in self.names])
@@ -63,7 +70,7 @@ class Ready(SendTest):
         publish = ("publish", "--force", "--because", "early")
         said = self.done(*publish).output
         place = f"letters/result/{self.last_act() - 1}"
-        ready = f"\nReady: 2 letters, {place}\nNext: put the folder result on the web site as it is; then debvote-election letters --send, or "
+        ready = f"\nReady: 2 letters, {place}\nNext: put the folder result on the web site as it is, then debvote-election status --done upload; then 2 letters of the result are not sent: debvote-election letters --send; or "
         self.assertIn(ready, said)
         self.assertNotIn("Ready: ", self.done(*publish).output)
         said = self.assert_sent_by_all("Result", "ada", "ben").output
@@ -106,7 +113,9 @@ class OnTheRoll(SendTest):
         self.assert_fault(ended, 9, "codes are on the roll, and nobody knows whose they are")
         said = self.done("close", "--yes").output
         self.assertNotIn("Ready: ", said)
-        self.assertTrue(said.endswith("count anything.\nNext: debvote-election count\n"), said)
+        following = "count anything.\nNext: send letters/closed.txt to all electors, then debvote-election status --done letters\n"
+        self.assertTrue(said.endswith(following), said)
+        self.assertEqual(self.next_told(), "Next: debvote-election count\n")
 
 
 class WithCodes(SendTest):
@@ -135,7 +144,7 @@ class NoAddress(SendTest):
             self.assertNotIn("Ready: ", ended.output)
             self.assertNotIn("letters out", str(self.acts()))
         self.assertIn(
-            "letters --send sends the letters, or debvote-election letters closed writes them",
+            "9 letters of the close are not sent: debvote-election letters --send --server HOST --from ADDRESS; or",
             self.done("close").output,
         )
 
@@ -150,7 +159,7 @@ class WithBox(boxes.BoxElectionTest):
     def test_a_call_whose_page_nobody_has_seen(self):
         """It is not sent; `letters --send` asks itself, and sends it once the page is there."""
         words = (*boxes.UNTIL, "--to", "vote@club.example", "--at", self.host.at, "--box")
-        next_ = ", vote.php too; then debvote-election letters --send sends the letters, or debvote-election letters call writes them, and tries first"
+        next_ = ", vote.php too; then debvote-election add --box; then 9 letters of the call are not sent: "
         self.assertIn(next_, self.done("call", *words).output)
         self.done("desk", given="ada 1,2,3,4\n")
         self.done("letters", "receipts")
@@ -169,7 +178,7 @@ class WithBox(boxes.BoxElectionTest):
         # after an early close the page is asked once more before the letters of the close
         said = self.done("close", "--early").output
         self.assertNotIn("Ready: ", said)
-        next_ = "\nNext: debvote-election letters --send sends the letters, or debvote-election letters closed writes them; then "
+        next_ = "\nNext: 9 letters of the close are not sent: debvote-election letters --send; or "
         self.assertIn(next_, said)
         self.done(*send)
         self.assertEqual(self.server.addresses()[10:], everybody)

@@ -113,22 +113,28 @@ class OpenTest(PublishedTest):
             self.assertEqual(self.read(f"result/{label}/sheet.txt").decode(), sheets[label])
 
     def test_the_page_of_all_questions(self):
-        """It has no list of options, so none has a number there; and it names each earlier result, of all questions."""
+        """It has no list of options, so none has a number there; and it names each result of before its close, of all questions."""
         self.done("close", "--early")
         self.publish(status=1)
         page = " ".join(self.read("result/index.html").decode().split())
         self.assertNotIn("<i>", page)
         self.assertIn("<bdi>Ada Lovelace</bdi> against <bdi>Mary Somerville</bdi>: ", page)
         checksum = hashlib.sha256(self.read("result/SHA256SUMS")).hexdigest()
+        # a page of one question tells what was done since then, too
         self.publish("--casting", "B=Mary Somerville", *CAST, status=1)
-        page = " ".join(re.sub("<[^>]*>", "", self.read("result/index.html").decode()).split())
+        self.assertNotIn(checksum, self.read("result/index.html").decode())
+        self.assertIn(checksum, self.read("result/B/index.html").decode())
+        self.done("reopen", "--because", "a letter was forgotten")
+        self.done("close", "--early")
+        self.publish("--casting", "B=Mary Somerville", *CAST, "result-2", status=1)
+        page = " ".join(re.sub("<[^>]*>", "", self.read("result-2/index.html").decode()).split())
         ended = (
             "A Winner: Yes, 72 Euro. B A tie: Ada Lovelace, Mary Somerville. C A tie: Slate, Tiles."
         )
         self.assertIn(
             f"A result was published, whose SHA256SUMS has the checksum {checksum}. {ended}", page
         )
-        page = " ".join(re.sub("<[^>]*>", "", self.read("result/B/index.html").decode()).split())
+        page = " ".join(re.sub("<[^>]*>", "", self.read("result-2/B/index.html").decode()).split())
         self.assertIn(f"the checksum {checksum}. B A tie: Ada Lovelace, Mary Somerville.", page)
         page = self.read("result/B/index.html").decode()
         self.assertIn(f'<a href="../index.html">{self.title}</a> · <b>B</b>', page)
@@ -154,16 +160,18 @@ class OpenTest(PublishedTest):
         )
         chosen = "the holder of the casting vote chooses one of them: debvote-election publish --casting B=NAME --cast-by WHO --cast-on DATE --casting C=NAME --cast-by WHO --cast-on DATE"
         self.done("close", "--early")
-        self.assertEqual(self.election("count").faults, f"Next: {both}; {chosen}\n")
+        self.say_done()
+        first = "Next: debvote-election publish, and debvote-election letters --send, so that everybody sees the tie before the casting vote; then "
+        self.assertEqual(self.election("count").faults, f"{first}{both}; {chosen}\n")
         said = self.election("count", "--casting", "C=Tiles").faults
         who = "--cast-by WHO --cast-on DATE"
         ways = [
-            f"debvote-election publish --casting C=Tiles {who} --casting {name} {who}"
+            f"debvote-election publish --casting {name} {who} --casting C=Tiles {who}"
             for name in ("'B=Ada Lovelace'", "'B=Mary Somerville'")
         ]
         self.assertEqual(
             said,
-            f"Next: question B is a tie between {TIES['B']}; the holder of the casting vote chooses one of them: {' or '.join(ways)}\n",
+            f"{first}question B is a tie between {TIES['B']}; the holder of the casting vote chooses one of them: {' or '.join(ways)}\n",
         )
         ended = self.election("count", "--casting", "c=Tiles", "--casting", "B=Mary Somerville")
         self.assertEqual((ended.status, ended.output.count("by casting vote")), (0, 2))
@@ -178,10 +186,13 @@ class OpenTest(PublishedTest):
             "A: Winner: 1 Yes, 72 Euro\nverified\nB: Winner: 2 Mary Somerville by casting vote\nverified, casting vote 2 Mary Somerville\nC: Tie: 1 2",
             said,
         )
-        self.assertIn(
-            "publish --casting 'B=Mary Somerville' --cast-by 'The chair' --cast-on 2026-11-24 --casting C=NAME --cast-by WHO",
-            said,
+        self.assertIn("\nNext: 3 receipts are not written: ", said)
+        ways = (
+            f"debvote-election publish --casting 'B=Mary Somerville' --cast-by 'The chair' --cast-on 2026-11-24 --casting C={name} --cast-by WHO --cast-on DATE"
+            for name in ("Slate", "Tiles")
         )
+        said = f"Next: question C is a tie between Slate, Tiles; the holder of the casting vote chooses one of them: {' or '.join(ways)}\n"
+        self.assertEqual(self.next_told(), said)
         self.assertEqual(
             self.listed(),
             sorted([*ABOVE, *(f"{label}/{name}" for label in self.polls for name in FILES)]),
@@ -284,27 +295,18 @@ class OpenTest(PublishedTest):
     def test_one_casting_vote_after_the_other(self):
         """The command that is told for the second has the first, without which that question would be a tie again."""
         self.done("close", "--early")
-        first = self.publish(status=1)
+        self.publish(status=1)
         self.assertIn(
-            "its day: debvote-election publish --casting B=NAME --cast-by WHO --cast-on DATE --casting C=NAME --cast-by WHO --cast-on DATE\n",
-            first,
+            "chooses one of them: debvote-election publish --casting B=NAME --cast-by WHO --cast-on DATE --casting C=NAME --cast-by WHO --cast-on DATE\n",
+            self.next_told(),
         )
         ended = self.election(
             "publish", "--casting", "B=Ada Lovelace", "--cast-by=-Eve", "--cast-on", "2026-11-23"
         )
-        [told] = re.findall(r"its day: debvote-election (.*)\n", ended.output)
-        self.assertEqual(
-            (ended.status, told),
-            (
-                1,
-                "publish --casting 'B=Ada Lovelace' --cast-by=-Eve --cast-on 2026-11-23 --casting C=NAME --cast-by WHO --cast-on DATE",
-            ),
-        )
-        counted = self.election("count", "--casting", "B=Ada Lovelace").faults
-        self.assertIn(
-            f"chooses one of them: debvote-election {told.replace('NAME', 'Slate')} or debvote-election {told.replace('NAME', 'Tiles')}\n",
-            counted,
-        )
+        told = "publish --casting 'B=Ada Lovelace' --cast-by=-Eve --cast-on 2026-11-23 --casting C=NAME --cast-by WHO --cast-on DATE"
+        both = f"chooses one of them: debvote-election {told.replace('NAME', 'Slate')} or debvote-election {told.replace('NAME', 'Tiles')}\n"
+        self.assertEqual((ended.status, both in self.next_told()), (1, True))
+        self.assertIn(both, self.election("count", "--casting", "B=Ada Lovelace").faults)
         words = shlex.split(
             told.replace("NAME", "Tiles").replace("WHO", "Ida").replace("DATE", "2026-11-24")
         )
@@ -377,15 +379,20 @@ class OpenTest(PublishedTest):
         # holder and day of the same vote may be put right
         self.publish(*votes, *ida[:2], "--cast-on", "2026-11-22", "--cast-on", "2026-11-24")
         self.assertEqual(self.holders(), [("Ida", "24"), ("Ida", "22")])
-        told = "publish --casting 'B=Ada Lovelace' --cast-by Ida --cast-on 2026-11-24 --casting C=Tiles --cast-by Ida --cast-on 2026-11-22\n"
-        self.assertEqual(self.election("count", *votes).faults, f"Next: debvote-election {told}")
+        told = "publish --casting 'B=Ada Lovelace' --cast-by Ida --cast-on 2026-11-24 --casting C=Tiles --cast-by Ida --cast-on 2026-11-22 result-2\n"
+        self.done("reopen", "--because", "a letter was forgotten")
+        self.done("close", "--early")
+        self.say_done()
+        self.assertIn(f"; then debvote-election {told}", self.election("count", *votes).faults)
+        (self.folder / "result").rename(self.scratch / "result")
         self.publish(*votes, *ben)
         self.assertEqual(self.holders(), [("Ben", "24"), ("Ben", "24")])
         # what was published last before a reopen is told after it, too
         self.done("reopen", "--because", "a letter was forgotten")
         self.done("close", "--early")
-        told = f"publish --casting 'B=Ada Lovelace' {' '.join(ben)} --casting C=Tiles {' '.join(ben)}\n"
-        self.assertEqual(self.election("count", *votes).faults, f"Next: debvote-election {told}")
+        self.say_done()
+        told = f"publish --casting 'B=Ada Lovelace' {' '.join(ben)} --casting C=Tiles {' '.join(ben)} result-2\n"
+        self.assertIn(f"; then debvote-election {told}", self.election("count", *votes).faults)
 
     def doubted(self) -> list[str]:
         """The questions with a doubt, by the first page; the page of each has it, too."""

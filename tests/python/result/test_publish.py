@@ -349,8 +349,9 @@ class OfOpenVotes(OfElections):
         self.assertEqual(self.read("result-2/mine"), b"mine")
 
     def test_a_result_that_takes_the_place_of_another(self):
-        """Page and letter name each earlier one, with its checksum, and how it ended; the subject
-        says whether a sheet differs.
+        """Above the result page and letter name, once, each of before its close, with its checksum,
+        and how it ended; others are in what was done. The subject says whether it is corrected, or
+        decided by the casting vote alone.
         """
         self.closed(TIE, "--at", "https://x.example/")
         self.publish(status=1)
@@ -359,7 +360,9 @@ class OfOpenVotes(OfElections):
         wanted = [f"{SINCE} {self.checksum()}. A tie: 72 Euro, Größe."]
         cast = ("--casting", "Größe", "--cast-by", "Anna", "--cast-on", today())
         self.publish(*cast)
-        self.assertEqual((self.earlier(), self.subject()), (wanted, f"Corrected result: {title}"))
+        decided = f"Result after the casting vote: {title}"
+        self.assertEqual((self.earlier(), self.subject()), ([], decided))
+        self.assertEqual(self.what_was_done()[2:], wanted)
         # again, also with the same words, it is the same
         made = self.published()
         for words in ((), cast, ("--force",)):
@@ -368,17 +371,19 @@ class OfOpenVotes(OfElections):
         wanted.append(f"{SINCE} {self.checksum()}. Winner: Größe by casting vote.")
         self.reopened_with("cleo 1,2,3\n")
         self.publish()
-        self.assertEqual(self.earlier(), wanted)
+        self.assertEqual((self.earlier(), self.subject()), (wanted, f"Corrected result: {title}"))
         done = self.what_was_done()
         self.assertEqual(done[2:4], wanted)
         reopened = "The vote was opened again, for what had come before the first close"
         between = [text.partition(".")[0] for text in done[4:]]
         self.assertEqual(between, [reopened, "The vote was closed"])
-        wanted.append(f"{SINCE} {self.checksum()}. Winner: 72 Euro.")
+        last = f"{SINCE} {self.checksum()}. Winner: 72 Euro."
         # the same sheet as the last
         self.write("about", TEXT)
         self.publish("--about", "about")
-        self.assertEqual(self.earlier(), wanted)
+        self.assertEqual((self.earlier(), self.what_was_done()[-1]), (wanted, last))
+        # of several the sentence stands once
+        self.assertEqual(self.letter().count("takes the place of earlier ones:"), 1)
 
     def checksum(self):
         return digest(self.read("result/SHA256SUMS"))
@@ -388,11 +393,16 @@ class OfOpenVotes(OfElections):
         list.
         """
         place = "<p>This result takes the place of an earlier one. (.*?)</p>"
+        places = "<p>This result takes the place of earlier ones:</p>\\s*<ul>(.*?)</ul>"
         shown = re.findall(place, self.page(), re.S)
+        for several in re.findall(places, self.page(), re.S):
+            shown += re.findall("<li>(.*?)</li>", several, re.S)
         told = [in_one_line(re.sub("<[^>]*>", "", text.partition("): ")[2])) for text in shown]
         letter = self.letter()
         self.assertEqual([letter.count(text) for text in told], [2] * len(told))
-        self.assertEqual(letter.count("A result was published"), 2 * len(told))
+        # above, and in what was done
+        done = sum("A result was published" in text for text in self.what_was_done())
+        self.assertEqual(letter.count("A result was published"), len(told) + done)
         return told
 
     def subject(self):
@@ -439,8 +449,8 @@ class OfOpenVotes(OfElections):
         self.stops("publish", "--force", said=told)
         output = self.force(because="A <test>.\n\nNo more.")
         # no result ends the vote
-        following = "Next: debvote-election close, then debvote-election publish result-2"
-        self.assertEqual(output.splitlines()[-1], following)
+        following = "Next: 3 letters of the call are not sent: "
+        self.assertTrue(output.splitlines()[-1].startswith(following))
         doubts = [
             "No elector has a ballot that counts: nobody's vote has decided this.",
             "More than half of the lines of the ballot file are refused: 1 of 1.",
