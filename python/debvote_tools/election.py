@@ -99,8 +99,9 @@ class History(NamedTuple):
 
     @property
     def zone(self) -> datetime.tzinfo | None:
-        """The zone in which the end was announced."""
-        return self.until.tzinfo if self.until else datetime.UTC
+        """The zone in which the end was announced; without one that of the computer of the call."""
+        offset = datetime.timedelta(seconds=self.announced("offset") or 0)
+        return self.until.tzinfo if self.until else datetime.timezone(offset)
 
     def ends_after(self, time: datetime.datetime) -> bool:
         """Whether its announced end is still to come: to close before it takes `--early`."""

@@ -183,7 +183,7 @@ class PackageTest(expecting.Expecting):
         fields = run(["dpkg-deb", "-f", self.package, *asked])[0]
         named = re.findall(r"GLIBC_([\d.]+)", run(["objdump", "-p", PROGRAM])[0])
         newest = max(named, key=lambda found: [*map(int, found.split("."))])
-        needs = f"Depends: libc6 (>= {newest}), python3 (>= 3.11), python3-jinja2\nRecommends: gpg, gpgv, python3-cryptography\nSuggests: graphviz\n"
+        needs = f"Depends: libc6 (>= {newest}), python3 (>= 3.11), python3-jinja2\nRecommends: gpg, gpgv, python3-cryptography, python3-segno\nSuggests: graphviz\n"
         self.expect("the fields", fields, f"Version: {version}\n{needs}")
         digest = hashlib.sha256(self.package.read_bytes()).hexdigest()
         sums = self.package.with_name("SHA256SUMS").read_text()

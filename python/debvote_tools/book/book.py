@@ -85,6 +85,7 @@ ActName = (
 #   roll, addresses: electors, how many; codes: codes, how many, and on_roll
 #   call, extend, announce: to, to_name, at, as the command line names them; box, names, signed,
 #     keyring, codes_on_roll, quorum_votes; call, extend: until, zone
+#   call: offset, of the clock of the computer from UTC, in seconds
 #   call, announce, publish: agreed, the checksums of texts that a secret vote may make public
 #   take back: call, its act; codes, how many have lapsed
 #   letters: letters, and box, what the web box had; add: files, lines, letters,
@@ -235,10 +236,18 @@ class Book:
                     self.connection.execute(ONE_QUESTION.format(view=view, label=label))
                 self.label = label or before
                 yield
-            finally:
-                for view in views:
-                    self.connection.execute(f"DROP VIEW IF EXISTS temp.{view}")
-                self.label = before
+            except BaseException:
+                # of a damaged book this fails, too, and what failed within is told
+                with contextlib.suppress(sqlite3.Error):
+                    self.show_all(views, before)
+                raise
+            self.show_all(views, before)
+
+    def show_all(self, views: Sequence[str], label: str) -> None:
+        """Ends that one question is seen alone; the label is that of before."""
+        for view in views:
+            self.connection.execute(f"DROP VIEW IF EXISTS temp.{view}")
+        self.label = label
 
     # ---- acts
     @contextlib.contextmanager
@@ -246,6 +255,9 @@ class Book:
         """One act: its rows are committed at the end, or none after an exception. Within the act
         nobody is asked and no program runs.
         """
+        # it may have been raised where Python drops it
+        if ENDED:
+            raise ENDED[-1]
         self.note().make_ready()
         with self.transaction("BEGIN IMMEDIATE"):
             before = self.last_act()

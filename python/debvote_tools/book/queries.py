@@ -154,6 +154,11 @@ def last_act_that_sealed(book: Book, name: str) -> int:
     return int(book.value("SELECT coalesce(max(act), 0) FROM sealed WHERE name = ?", name))
 
 
+def acts_since(book: Book, act: int) -> list[tuple[int, str]]:
+    """Number and name of each act since one."""
+    return book.rows("SELECT act, name FROM act WHERE act > ? ORDER BY act", act)
+
+
 # ---- envelopes
 class Envelope(NamedTuple):
     """A line that was entered, valid or not, in its envelope. The number is the envelope's, which

@@ -65,7 +65,7 @@
     if (byId("Sent").textContent !== text) byId("Sent").textContent = text;
   }
 
-  const spoken = (time) => new Date(time).toLocaleString(document.documentElement.lang, { dateStyle: "medium", timeStyle: "medium" });
+  const spoken = (time) => new Date(time).toLocaleString(document.documentElement.lang, { dateStyle: "medium", timeStyle: "long" });
 
   const bytesOf = (text) => new TextEncoder().encode(text);
   const hexOf = (buffer) => [...new Uint8Array(buffer)].map((byte) => byte.toString(16).padStart(2, "0")).join("");

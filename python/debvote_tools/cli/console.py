@@ -24,7 +24,7 @@ from debvote_tools.text.times import offset_of
 
 LINES_AT_ONCE = 1_000
 
-# the zone in which times are told: that of the announced end, once the acts are read
+# the zone in which times are told, once the acts are read
 ZONE = contextvars.ContextVar[datetime.tzinfo | None]("zone", default=datetime.UTC)
 # leaves out of a text what is never shown, such as the links with which somebody could vote
 LEAVING_OUT = contextvars.ContextVar[Callable[[str], str]]("leaving out", default=str)
@@ -63,7 +63,8 @@ class OutputFailed(Fault):
         self.is_closed_pipe = is_closed_pipe
 
 
-# what the handler of a signal has raised that ends the program: within a query SQLite drops it
+# what the handler of a signal has raised that ends the program: within a query SQLite drops it, and
+# Python in what it calls by itself, as when an object is deleted
 ENDED = list[BaseException]()
 
 

@@ -9,6 +9,10 @@ from debvote_tools.election import Election
 from debvote_tools.outbox.steps import Step, tell_next
 
 
+# what the key of the box gives, which is in each copy since the call
+WHO_HAS_IT = "whoever has a copy opens all ballots of the page, also those to come, and can vote in each name"
+
+
 class Arguments(Options):
     file: str = positional("FILE", "The new file, best on another disk")
 
@@ -24,4 +28,6 @@ def backup(election: Election, arguments: Arguments) -> None:
     tell(
         f"Copied the book up to act {last} into {target}. Only you can read it; it holds everything that came or was done."
     )
+    if election.history().announced("box"):
+        tell(f"Keep it as safe as the book itself: {WHO_HAS_IT}.")
     tell_next(election)

@@ -17,14 +17,17 @@ from debvote_tools.call.secret import aliased, demand_no_code
 from debvote_tools.cli.arguments import Acting, flag, given, option
 from debvote_tools.cli.console import act_time, is_terminal, is_yes, tell
 from debvote_tools.cli.faults import Fault, bad_words, kept_in, stop_at
+from debvote_tools.commands.backup import WHO_HAS_IT
 from debvote_tools.commands.check import (
     Checked,
     checked,
     demand_read,
     faults_of_ballots,
     notes_on,
+    read_roll,
 )
 from debvote_tools.commands.codes import CODES, SLIPS, write_slips
+from debvote_tools.commands.roll import keep_electors, roll_in_words
 from debvote_tools.election import (
     CALL,
     KEYRING,
@@ -113,7 +116,18 @@ def call(election: Election, arguments: Arguments) -> None:
 
 
 # ---- the acts
+def roll_first(election: Election) -> None:
+    """Reads the list of members if nobody has: `roll` is for whoever looks at it before."""
+    if queries.all_electors(election.book):
+        return
+    history = election.history()
+    members = read_roll(election, history)
+    keep_electors(election.book, members, history.last.number)
+    tell(*roll_in_words(members, election.language))
+
+
 def call_first(election: Election, arguments: Arguments) -> None:
+    roll_first(election)
     history = election.history()
     faults = list[Fault]()
     detail = announced(arguments, history, faults)
@@ -135,6 +149,7 @@ def call_first(election: Election, arguments: Arguments) -> None:
     if arguments.box and draft.questions.is_secret:
         detail["slips"] = arguments.slips or asked_slips()
     detail |= {
+        "offset": times.offset_here(),
         "names": arguments.names,
         "box": arguments.box,
         "codes_on_roll": history.has_codes_on_roll,
@@ -475,7 +490,7 @@ def box_in_words(election: Election, data: CallData) -> Iterator[str]:
     asked_at = last_box(election.history()).get("at")
     if asked_at not in (None, data.at):
         yield f"Note: the page at {asked_at} still takes ballots, which add --box fetches no more: remove its {SCRIPT}, then fetch its file {records_file(data.box_key)} by FTP, and add it: {election.command('add', 'FILE')}."
-    yield f"Make a copy of the book now: {election.command('backup', 'FILE')}. Without the book nobody can open what lies on the web host."
+    yield f"Make a copy of the book now: {election.command('backup', 'FILE')}. Without the book nobody can open what lies on the web host; {WHO_HAS_IT}."
     yield f"To ask for the ballots of the page each hour, by cron: {cron_line(election)}"
 
 

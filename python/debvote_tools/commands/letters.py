@@ -5,7 +5,8 @@ import dataclasses
 import pathlib
 from collections.abc import Iterator, Mapping, Sequence
 
-from debvote_tools.book.book import Detail
+from debvote_tools.book import queries
+from debvote_tools.book.book import Detail, Overtaken
 from debvote_tools.book.change import Change
 from debvote_tools.book.outgoing import TAKEN, WRITTEN, OutgoingLetter, note
 from debvote_tools.cli.arguments import Acting, flag, given, option, positional
@@ -40,6 +41,8 @@ from debvote_tools.text import times
 MOST = 20
 # in characters
 BAR = 40
+# the acts beside which letters go on: what comes is told by later ones
+COMING = "letters, add, desk, enter, set aside, put back, letters out, letter sent".split(", ")
 ALL_TAKEN = "There is no letter to send: the server has taken all that are due."
 # what is said of letters with link and code
 CODES = "Who reads a letter with its code can vote in that name, and finds the alias"
@@ -417,10 +420,9 @@ def send_letters(due: LettersDue, server: Server | None) -> list[OutgoingLetter]
     detail: Detail = {"kind": due.kind, "server": str(server)}
     if server.user is not None:
         detail["user"] = server.user
-    messages = ((letter, letter_folder.message(due, letter, is_draft=False)) for letter in letters)
     try:
         show_progress(0, len(letters))
-        for letter in smtp.send_all(messages, due.sender, server):
+        for letter in smtp.send_all(messages(due, letters), due.sender, server):
             with uninterrupted(), due.election.book.act("letter sent", detail) as act:
                 note(act, [letter])
             tried.append(letter)
@@ -433,6 +435,21 @@ def send_letters(due: LettersDue, server: Server | None) -> list[OutgoingLetter]
         if shows():
             tell("")
     return tried
+
+
+def messages(
+    due: LettersDue, letters: Sequence[OutgoingLetter]
+) -> Iterator[tuple[OutgoingLetter, bytes]]:
+    """Letters as they go out. Stops before one if an act came since they were made by which it may
+    say what is not so any more, as a call that was taken back.
+    """
+    since = due.history.last.number
+    for letter in letters:
+        for act, name in queries.acts_since(due.election.book, since):
+            if name not in COMING:
+                raise Overtaken
+            since = act
+        yield letter, letter_folder.message(due, letter, is_draft=False)
 
 
 def show_progress(count: int, total: int) -> None:

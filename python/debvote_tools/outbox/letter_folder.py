@@ -17,6 +17,8 @@ import re
 import shutil
 from collections.abc import Iterator, Mapping, Sequence
 
+from markupsafe import Markup
+
 from debvote_tools.book.outgoing import OutgoingLetter
 from debvote_tools.files import naming, remove_left_in, sync_folder, temporary_folder
 from debvote_tools.outbox.due import LettersDue
@@ -104,7 +106,8 @@ def letter_files(due: LettersDue, letters: Sequence[OutgoingLetter]) -> dict[str
         elector = due.electors[letter.elector]
         if not letter.address:
             rows = rows_to_print(due.text_of(letter).text)
-            printed.append((one_line(elector.who) or elector.name, rows))
+            link = due.composer.call_data.link_of(elector)
+            printed.append((one_line(elector.who) or elector.name, rows, link))
         elif not due.is_sending and due.can_be_sent(letter):
             # no name on a roll has the sign _
             name = (
@@ -122,10 +125,20 @@ def letter_files(due: LettersDue, letters: Sequence[OutgoingLetter]) -> dict[str
             title=call.questions.name,
             is_secret=call.questions.is_secret,
             letters=printed,
+            picture_of=picture_of,
             # letters of other kinds begin with the secretary's own words
             sender=sender if due.kind in ("receipts", "closed", "result") else "",
         )
     return files
+
+
+def picture_of(link: str) -> Markup:
+    """The QR code of a link, which nobody likes to type; none without the package that makes it."""
+    try:
+        import segno
+    except ModuleNotFoundError:
+        return Markup("")
+    return Markup(segno.make_qr(link).svg_inline(border=2, omitsize=True))
 
 
 def rows_to_print(text: str) -> list[list[tuple[str, str]]]:

@@ -1,7 +1,7 @@
 """Sends letters by SMTP.
 
 What the server answers to each is noted before the next begins, so a run that is cut off goes on.
-The letter that it was cut off in may go twice, with one Message-ID.
+The letter that it was cut off in may go again, each time with one Message-ID.
 """
 
 import contextlib

@@ -6,7 +6,6 @@ quotes a letter goes in.
 """
 
 import dataclasses
-import datetime
 from collections.abc import Collection, Iterator, Sequence
 from typing import NamedTuple
 
@@ -26,6 +25,8 @@ PACKAGE = "debvote_tools.outbox"
 
 # how many lines two sides of A4 have, as letter.css prints them
 TWO_SIDES = 112
+# and how many of these the QR code of a link takes beside its words
+OF_LINK = 4
 
 # the letters that go out, as the command and the book name them, with their subjects
 SUBJECTS = marked(
@@ -142,7 +143,8 @@ class Composer:
                 are_texts_elsewhere=are_texts_elsewhere,
                 earlier=earlier,
             )
-            if not is_on_paper(elector) or letter.text.count("\n") <= TWO_SIDES:
+            room = TWO_SIDES - (OF_LINK if self.call_data.at else 0)
+            if not is_on_paper(elector) or letter.text.count("\n") <= room:
                 break
         return letter
 
@@ -212,9 +214,7 @@ class Composer:
         return " ".join(sentences)
 
     def became(self, fate: Fate) -> str:
-        """Says what became of something that came, with its time in the zone in which the end was
-        announced.
-        """
+        """Says what became of something that came, with its time in the zone of the vote."""
         letter = fate.letter
         if letter is None:
             sentence = (OF_BALLOT | AT_THE_END if self.is_over else OF_BALLOT)[fate.became]
@@ -226,10 +226,9 @@ class Composer:
             sentence = (OF_RECORD if letter.read.link else OF_LETTER)[fate.is_own][is_done]
         # the web host has another time, and can't change this one
         came = letter or fate.came_by
-        until = self.call_data.until
         time = (came and came.read.sent or fate.time).replace(microsecond=0)
-        zone = until.tzinfo if until else datetime.UTC
-        return self.language.say(sentence, time=time_in_words(time.astimezone(zone), self.language))
+        told = time.astimezone(self.call_data.zone)
+        return self.language.say(sentence, time=time_in_words(told, self.language))
 
     def more_of(self, fate: Fate) -> Iterator[str]:
         """What of a ballot does not count, and how it came."""

@@ -753,6 +753,21 @@ except KeyboardInterrupt:
 """
 
 
+# a signal that comes where Python drops what its handler raises, and then an act
+DROPPED = """import os, pathlib, signal
+from debvote_tools.book.book import open_book
+from debvote_tools.cli import console
+console.prepare(signal.SIGTERM)
+class Deleted:
+    def __del__(self):
+        os.kill(os.getpid(), signal.SIGTERM)
+book = open_book(pathlib.Path("election.db"))
+Deleted()
+with book.act("desk"):
+    pass
+"""
+
+
 class OnTheDisk(BookTest):
     """What is brought to the disk, and in which order; an act that is cut off in its commit, or right after it."""
 
@@ -808,6 +823,14 @@ class OnTheDisk(BookTest):
                     self.assertEqual(run.wait(20), status)
                 finally:
                     run.kill()
+
+    def test_a_signal_that_python_drops(self):
+        self.write("dropped.py", DROPPED)
+        before = self.last_act()
+        env = {"PYTHONPATH": str(elections.ROOT / "python"), "XDG_STATE_HOME": str(self.state)}
+        ended = self.run_program(sys.executable, "dropped.py", env={**os.environ, **env})
+        self.assertIn("Exception ignored in", ended.faults)
+        self.assertEqual((ended.status, self.last_act()), (128 + signal.SIGTERM, before))
 
     def test_interrupted_in_the_commit(self):
         """What is done is reported: the signal comes when SQLite removes the journal."""

@@ -8,12 +8,15 @@ import functools
 import os
 import pathlib
 import random
+import sys
+from unittest import mock
 
 from debvote_tools.book import queries
 from debvote_tools.book.book import open_book
 from debvote_tools.cli.faults import Fault
 
 from tests.support import elections
+from tests.support.questions import QuestionsTest
 
 DAMAGES = int(os.environ.get("DEBVOTE_DAMAGES", "400"))
 # of each so many one is shown to the commands, too
@@ -137,6 +140,22 @@ class Damaged(elections.ElectionTest):
             self.assertNotIn("Traceback", ended.faults, (seed, words))
             for line in ended.faults.splitlines():
                 self.assertRegex(line, r"\A(debvote-election|debvote|Note|Next|\s)", (seed, words))
+
+
+class OfQuestions(QuestionsTest):
+    def test_nothing_is_said_above_the_fault(self):
+        """A page is damaged that is read while one question is seen alone."""
+        self.add_lines(*(f"{name} A 1,2 B 1,2,3" for name in self.names * 9))
+        whole = self.read("election.db")
+        # what Python would print
+        ignored = []
+        for page in range(PAGE, len(whole), PAGE):
+            data = bytearray(whole)
+            data[page] ^= 0x55
+            (self.folder / "election.db").write_bytes(data)
+            with mock.patch.object(sys, "unraisablehook", ignored.append):
+                self.election("status")
+        self.assertEqual(ignored, [])
 
 
 # a class for each part, so that they run side by side

@@ -226,14 +226,19 @@ class Model:
         return [name for name in letter.electors if name not in having]
 
     def is_lost(self, one: Envelope) -> bool:
-        """Whether an undo took answers in time out that its elector has not given again since."""
-        again = {
-            label
-            for other in self.envelopes[one.number :]
-            if other.name == one.name and not (other.out or other.is_late)
-            for label, ranks in other.answers.items()
-            if one.answers.get(label) == ranks
-        }
+        """Whether an undo took answers in time out that its elector has not given again since, or
+        only below such as were above them before.
+        """
+        own = [other for other in self.envelopes if other.name == one.name and not other.is_late]
+        above = [other for other in own if other.number < one.number and other.out == "undo"]
+        since = [other for other in own if other.number > one.number and not other.out]
+        again = set()
+        for place, other in enumerate(since, start=1):
+            for label, ranks in other.answers.items():
+                turned = {earlier.answers.get(label) for earlier in above} - {ranks, None}
+                are_turned = any(later.answers.get(label) in turned for later in since[place:])
+                if one.answers.get(label) == ranks and not are_turned:
+                    again.add(label)
         is_out = one.out == "undo" and one.is_ballot and not one.is_late
         return is_out and not one.answers.keys() <= again
 
@@ -835,7 +840,7 @@ class Played:
         for name, answers in model.counting().items():
             files = self.folder.rglob(f"letters/result/*/{name}.eml")
             letter = text_in(max(files, key=lambda file: int(file.parent.name)))
-            shown = " ".join(self.done("show", name).output.split())
+            shown = " ".join(self.done("show", "--yes", name).output.split())
             if not answers:
                 self.assertIn("The result has no ballot of yours that counts.", letter)
                 self.assertRegex(shown, "The current ballot: none|nothing came")

@@ -5,6 +5,7 @@ import hashlib
 import os
 import re
 import subprocess
+import unittest.mock
 
 from debvote_tools.call.secret import alias_of
 from debvote_tools.election import LETTER_TEXT
@@ -47,6 +48,17 @@ class CallTest(CalledTest):
 
 
 class Open(CallTest):
+    def test_without_an_end_times_are_in_the_zone_of_the_computer(self):
+        """In that of the call, wherever a later command runs."""
+        with unittest.mock.patch.dict(os.environ, {"TZ": "Asia/Kolkata"}):
+            self.told("call --to vote@club.example")
+        self.cast("ada 1,2,3,4")
+        for words in ("status", "show ada", "log"):
+            self.assertIn("2026-11-27 14:30:00 UTC+05:30", self.told(words))
+        self.told("letters receipts")
+        [receipt] = (self.folder / "letters/receipts").rglob("ada.eml")
+        self.assertIn("14:30 (UTC+05:30)", receipt.read_text())
+
     def test_folder_and_seal(self):
         said = self.told(f"call {UNTIL} --to vote@club.example --at https://club.example/vote/")
         folder = self.folder / "call"
@@ -86,6 +98,19 @@ class Open(CallTest):
             text = self.texts("call/index.html", "call/call.txt", "call/poll.toml")
             self.assertEqual([who for who in people if who in text], shown)
             self.done("call --take-back")
+
+    def test_the_list_is_read_if_nobody_has_read_it(self):
+        fresh = self.folder / "fresh"
+        self.done("new fresh")
+        self.write("fresh/poll.toml", self.poll)
+        self.refused("call --folder fresh", "members.csv: ")
+        self.write("fresh/members.csv", MEMBERS)
+        said = self.told("call --folder fresh")
+        self.assertTrue(
+            said.startswith("9 electors, each with the name on the roll:\n  ada: "), said
+        )
+        self.assertIn("\nChecksum of the poll: ", said)
+        self.assertEqual(self.told(f"status --electors --folder {fresh}").count("\n"), 9)
 
     def test_the_list_has_to_be_the_one_that_was_read(self):
         for changed in (f"{MEMBERS}Jan,jan@club.example\n", MEMBERS.replace("ben@", "b@"), KEYS):

@@ -101,6 +101,19 @@ class Undo(CalledTest):
         for name in ("letters/result.txt", "result/index.html"):
             self.assertIn(f"{NOT_AGAIN}envelopes 2-3.", self.text(name))
 
+    def test_another_order_is_told(self):
+        """The same lines may have another winner then."""
+        first, last = f"ada {RANKS}\n", f"ada {OTHER_RANKS}\n"
+        self.adds(f"{first}{last}ben {RANKS}\n")
+        for given in (first + last, last + first):
+            self.assertEqual(self.numbers()["taken_back"], 0)
+            self.told("undo")
+            self.adds(f"{given}ben {RANKS}\n")
+        self.tells("status", "not entered again as they were: 2 (envelopes 2, 5).\n")
+        # what is typed now did not come before
+        self.cast(f"ben {OTHER_RANKS}", f"ben {RANKS}")
+        self.tells("close", "not entered again as they were: 2 (envelopes 2, 5).")
+
     def test_an_act_is_known_by_its_envelopes_whatever_its_name_is(self):
         self.enter_letter("offer")
         said = rf"Took back 1 line \(act {self.first_act}: offer, (?s:.*)1 letter then waits again, as taken back: 1\n"

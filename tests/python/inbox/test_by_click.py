@@ -174,7 +174,11 @@ class Clicks(boxes.BoxElectionTest):
         """
         self.begun(ben=RANKS)
         self.add_box()
-        self.done("backup", self.scratch / "copy.db")
+        # it has the key by which this click can be opened, too
+        has_key = (
+            "whoever has a copy opens all ballots of the page, also those to come, and can vote"
+        )
+        self.assertIn(has_key, self.told("backup", self.scratch / "copy.db"))
         self.new_address("ada")
         self.upload()
         self.done("letters call")

@@ -108,7 +108,7 @@ class SecretClicks(boxes.BoxElectionTest):
             self.assertIn(f"{self.host.at}#{name}/", text)
             self.assertIn(links[name], text)
             self.assertIn("Open the link, choose, and press Vote", text)
-            self.demand_without(text, *INVITING, codes[name], "secret code")
+            self.demand_without(text, *INVITING, codes[name], "This is your secret code")
         self.demand_without(self.read("call/call.txt").decode(), *INVITING)
         self.done("letters reminders")
         for name, text in self.texts("reminders").items():

@@ -4,11 +4,13 @@ import contextlib
 import datetime
 import functools
 import hashlib
+import importlib.util
 import pathlib
 import re
 import resource
 import shutil
 import stat
+import sys
 from unittest import mock
 
 from debvote_tools.files import TEMPORARY, write_whole
@@ -269,10 +271,22 @@ class Paper(OutTest):
         who = "Ada &lt;script&gt;alert(1)&lt;/script&gt; &amp; Söhne"
         self.assertEqual(found, [[(who, name[1])], [("Eve", "eve")]])
         self.assertNotIn("script", second)
+        # the link as a QR code, if there is what makes one
+        pictures = [
+            *map(
+                re.compile(r"(?s)#(?:ada-.*|eve)/\w{10}</p><svg.*?</svg>").findall, (first, second)
+            )
+        ]
+        if importlib.util.find_spec("segno"):
+            self.assertEqual([len(found) for found in pictures], [1, 1])
+            self.assertNotEqual(*pictures)
         self.assertEqual([state for _, state in self.rows("call")], ["written"] * 3)
         # who asks for it once more gets the same
         self.assertIn("Wrote 1 letter, none of them new: ", self.done("letters", "call").output)
         self.assertEqual(self.read(name[2]).decode(), page)
+        with mock.patch.dict(sys.modules, {"segno": None}):
+            self.done("letters", "call")
+        self.assertEqual(self.read(name[2]).decode(), re.sub("(?s)<svg.*?</svg>", "", page))
         # with letter.txt it says where
         self.assertIn("give it to whoever sent you this letter", self.text_in(name[2]))
         self.write("letter.txt", "Paper goes into the box.\n")
@@ -985,7 +999,7 @@ class Secret(OutTest):
         found += self.written("closed").values()
         rows = self.book.rows("SELECT alias FROM elector_state WHERE alias <> ''")
         self.done("publish", "--yes", "--force", "--because", "they were asked")
-        self.done("export", "out")
+        self.done("export", "--yes", "out")
         private = self.run_program("sh", "-c", "cd out && sha256sum *").output
         results = self.texts("result")
         for said in (

@@ -58,6 +58,26 @@ class Sending(SendTest):
         self.assert_none_is_due("call")
         self.assertEqual(list((self.folder / "letters").glob("*/*")), [])
 
+    def test_another_act_meanwhile(self):
+        """What comes lets the letters go on; what may make them untrue stops them before the next
+        one.
+        """
+        self.add_lines("cleo 1")
+        statuses = {}
+
+        def act(step: str, number: int) -> bool:
+            if (step, number) in (("data", 1), ("data", 3)):
+                words = "strike 1 --yes --because x" if number == 3 else "desk"
+                statuses[number] = self.election(words, given="ben 1").status
+            return False
+
+        self.server.at = act
+        ended = self.send("call")
+        fault = "another command changed the election meanwhile"
+        self.assert_fault(ended, 9, fault, "; 4 of 9 letters taken in this run: run the command")
+        self.assertEqual((self.server.addresses(), statuses), (ALL[:4], {1: 0, 3: 0}))
+        self.assert_sent("call", "Sent 5 of 5 letters.\n")
+
     def test_refused_for_good_or_for_now(self):
         """Who was refused is named by each later run, of whatever letters, and by `status`, until a
         letter is taken.

@@ -21,7 +21,7 @@ from debvote_tools.inbox.fates import REFUSED, Fate
 from debvote_tools.inbox.letter_text import ReadLine
 from debvote_tools.inbox.reasons import Reason, ReasonWithValues, for_elector
 from debvote_tools.inbox.rules import LetterOutcome
-from debvote_tools.outbox.letter_folder import message, rows_to_print
+from debvote_tools.outbox.letter_folder import message, picture_of, rows_to_print
 from debvote_tools.outbox.words import OF_BALLOT, PACKAGE, SUBJECTS, Composer, OutgoingText
 from debvote_tools.poll.questions import Questions
 from debvote_tools.poll.sealed import SealedPoll
@@ -311,12 +311,18 @@ class CallLetter(unittest.TestCase):
             self.assertEqual([part in text for part in (*parts, shows)], found)
         self.assertIn(parts[1], call_page(of_box.call_data).decode())
         for has_slips, said in (
-            (True, "Your code alone shows a change, in a copy"),
+            (True, "You get a slip with a secret code. That alone shows a change, in a copy"),
             (False, "Nothing would show you either."),
         ):
             secret = vote(box_key=b"x", has_aliases=True, has_slips=has_slips)
             text = is_read(secret.call_letter(ADA, is_extension=False).text)
             self.assertIn(limit + said, text)
+            # it seals the ballot, and writes no line
+            self.assertIn("The page of the vote, on which you vote, and on which the", text)
+            self.assertNotIn("which writes the line", text)
+            # it does not say what came
+            receipt = is_read(secret.receipt(ADA, all_that_came()).text)
+            self.assertIn("If you have not sent this, answer at once. You vote under", receipt)
 
     def test_what_one_letter_says_and_another_does_not(self):
         # the texts are in the call on paper, and not in what follows it; a word is an answer to a
@@ -397,7 +403,14 @@ class Printed(unittest.TestCase):
         style = resources(PACKAGE, "letter.css")
         language = language_of("en")
         page = render_page(
-            PACKAGE, "print.html", language, style=style, title="Spring", sender="", **how
+            PACKAGE,
+            "print.html",
+            language,
+            style=style,
+            title="Spring",
+            sender="",
+            picture_of=picture_of,
+            **how,
         )
         pathlib.Path(folder, "page.html").write_bytes(page)
         words = f"--headless --no-sandbox --disable-gpu --user-data-dir={folder}/of-browser --print-to-pdf={folder}/page.pdf {folder}/page.html"
@@ -406,9 +419,19 @@ class Printed(unittest.TestCase):
 
     def test_no_letter_of_a_secret_vote_is_on_the_back_of_another(self):
         """Whether they are printed on one side of the paper or on both."""
-        letters = [(name, [[("Hello", "paragraph")]]) for name in ("Ada", "Ben", "Cleo")]
+        letters = [(name, [[("Hello", "paragraph")]], None) for name in ("Ada", "Ben", "Cleo")]
         for is_secret, sides in ((False, 3), (True, 6)):
             self.assertEqual(self.sides(is_secret=is_secret, letters=letters), sides)
+
+    def test_without_texts_none_are_too_long(self):
+        labels = "ABCDEFG"
+        questions = Questions(dict.fromkeys(labels, POLL), "Meeting")
+        now = vote(
+            questions=questions, quorum_votes=dict.fromkeys(labels, 1), letter_text="x\n" * 60
+        )
+        text = now.call_letter(GUS, is_extension=False).text
+        self.assertGreater(text.count("\n"), 112)
+        self.assertNotIn(TEXTS, is_read(text))
 
     def test_a_letter_has_at_most_two_sides_and_the_texts_or_where_they_are(self):
         """With twelve options, no page, a secret code, and 600 characters of the secretary's own;
@@ -449,10 +472,11 @@ class Printed(unittest.TestCase):
                     break
                 longest = letter
             found = longest.text.count("forty tents"), longest.text.count("\n")
-            self.assertEqual(found, (lines - 1, 112), code)
+            self.assertEqual(found, (lines - 1, 112 - 4), code)
             printed.append(longest)
-        letters = [("Ada", rows_to_print(letter.text)) for letter in printed]
-        boxes = [kind for _, parts in letters for _, kind in parts[2]].count("option")
+        link = f"{AT}#{GUS.name}/{GUS.mark}"
+        letters = [("Ada", rows_to_print(letter.text), link) for letter in printed]
+        boxes = [kind for _, parts, _ in letters for _, kind in parts[2]].count("option")
         self.assertEqual(boxes, (12 + 3) * len(LANGUAGES))
         self.assertEqual(self.sides(is_secret=False, letters=letters), 2 * len(letters))
 

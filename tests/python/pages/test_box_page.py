@@ -185,8 +185,9 @@ class Clicks(RealBoxTest):
         *inside, sent = sealing.key_pair(KEY, MARK)[1](number, text).split("\n")
         self.assertEqual(inside, ["ada 1,2,-,3", PLACES["ada"][1:]])
         self.assertRegex(sent, r"^20\d\d-\d\d-\d\dT\d\d:\d\d:\d\d\.\d{3}Z$")
-        how = "{ dateStyle: 'medium', timeStyle: 'medium' }"
+        how = "{ dateStyle: 'medium', timeStyle: 'long' }"
         spoken = self.ask(f"new Date('{sent}').toLocaleString('en', {how})")
+        self.assertRegex(spoken, "UTC|GMT")
         self.assertIn(f"sent {spoken}. ", said)
         # pressed again, nothing is sent
         self.press()
@@ -532,7 +533,7 @@ class Answers(BoxPageTest):
         self.window.tell("Emulation.setTimezoneOverride", timezoneId=zone)
         self.addCleanup(self.window.tell, "Emulation.setTimezoneOverride", timezoneId="")
         self.addCleanup(self.window.resize, 390, 844)
-        how = json.dumps({"dateStyle": "medium", "timeStyle": "medium", "timeZone": zone})
+        how = json.dumps({"dateStyle": "medium", "timeStyle": "long", "timeZone": zone})
         now = datetime.datetime.fromisoformat(NOW.decode())
         row = """(() => { const place = (node) => node.getBoundingClientRect();
           const vote = place(document.getElementById("Vote")), row = place(document.querySelector(".actions"));

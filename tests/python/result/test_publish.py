@@ -927,6 +927,8 @@ class OfSecretVotes(OfElections):
             other = f'case "$*" in "{task} "*/dev/stdin*) {elections.PROGRAM} "$@" | sed "{change}"; exit ;; esac'
             self.stops("publish", path=self.other_debvote(other), said=[said])
         self.publish(status=1)
+        whence = "Your code, as it is on your slip or in your letter"
+        self.assertIn(whence, self.text("result/index.html"))
         # that of Zoë has the same order, which is published as it was; that of Ada has another one
         lines = "cleo 1,2,3\nzoe-muller 5,4,6\nada-lovelace 2,1,3\n"
         self.add(lines)
