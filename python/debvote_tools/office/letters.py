@@ -5,7 +5,6 @@ from collections.abc import Mapping, Sequence
 from debvote_tools.commands import held
 from debvote_tools.election import Election
 from debvote_tools.inbox import letter_words
-from debvote_tools.inbox.reasons import shown_value
 from debvote_tools.inbox.rules import LetterCase, LetterOutcome
 from debvote_tools.inbox.vote import Vote
 from debvote_tools.office.views import Values, paged
@@ -31,20 +30,20 @@ def in_list(vote: Vote, letter: LetterCase, language: Language) -> Values:
     """A letter as one of many: in a secret vote without the words of its ballot."""
     is_secret = vote.questions.is_secret
     return {
-        **head_of(letter, language),
+        **head_of(letter),
         "ballots": [] if is_secret else ballots_of(vote, letter, language),
         "electors": [line.elector for line in letter.ballots] if is_secret else [],
     }
 
 
-def head_of(letter: LetterCase, language: Language) -> Values:
+def head_of(letter: LetterCase) -> Values:
     return {
         "number": letter.number,
         "name": letter_words.name_of(letter),
         "sender": letter_words.sender_of(letter),
         "subject": letter_words.subject_of(letter),
         "time": letter_words.arrival_of(letter),
-        "why": why_in(letter, language),
+        "why": letter_words.why(letter),
     }
 
 
@@ -62,17 +61,6 @@ def ballots_of(vote: Vote, letter: LetterCase, language: Language) -> list[Value
     ]
 
 
-def why_in(letter: LetterCase, language: Language) -> str:
-    """Why it waits, in the language of the page if that has the sentence, or in English."""
-    if letter.reason is None or letter.voted_since:
-        return letter_words.why(letter)
-    text = letter.reason.reason.value[0]
-    if language.catalog.gettext(text) == text:
-        return letter_words.why(letter)
-    values = {name: shown_value(value) for name, value in letter.reason.values}
-    return language.say(text, **values)
-
-
 def letter_of(election: Election, language: Language, number: int) -> Values | None:
     """All of one letter, with the words of its ballots while it has to be decided."""
     vote = Vote(election)
@@ -81,7 +69,7 @@ def letter_of(election: Election, language: Language, number: int) -> Values | N
     if letter is None:
         return None
     return {
-        **head_of(letter, language),
+        **head_of(letter),
         "is_pending": letter.is_pending,
         "ballots": ballots_of(vote, letter, language) if letter.is_pending else [],
         "whole": list(letter_words.whole(letter, held.ours(vote, letter)))[1:],

@@ -11,6 +11,7 @@ from collections.abc import Sequence
 from typing import Any, NamedTuple
 
 from debvote_tools.cli.faults import Fault
+from debvote_tools.election import Election
 from debvote_tools.office import state
 
 FILE = "office.toml"
@@ -22,7 +23,7 @@ CURE = "put it right with an editor, as the guide has it, or remove the file"
 
 class OwnPrograms(NamedTuple):
     """The words of each program; without words it has none. `digest` is that of the whole file at
-    its place.
+    its place, beside its book.
     """
 
     upload: Sequence[str]
@@ -38,9 +39,9 @@ class OwnPrograms(NamedTuple):
         return [word.replace(FOLDER, str(folder)) for word in self.upload]
 
 
-def programs_in(folder: pathlib.Path) -> OwnPrograms | None:
-    """What the file says; None if there is none."""
-    file = folder / FILE
+def programs_in(election: Election) -> OwnPrograms | None:
+    """What the file says; None if there is none. After a move of the book it is agreed to anew."""
+    file = election.path(FILE)
     try:
         data = file.read_bytes()
         values = tomllib.loads(data.decode())
@@ -56,7 +57,9 @@ def programs_in(folder: pathlib.Path) -> OwnPrograms | None:
         raise Fault(file, reason, CURE, done=None)
     if fetch and not mailbox:
         raise Fault(file, "`fetch` needs `mailbox`, where the letters lie then", CURE, done=None)
-    return OwnPrograms(upload, fetch, mailbox, state.digest_here(folder, data))
+    history = election.history()
+    book = f"{history.acts[0].digest} {len(history.named('moved'))}\n".encode()
+    return OwnPrograms(upload, fetch, mailbox, state.digest_here(election.folder, book + data))
 
 
 def are_words(value: Any) -> bool:

@@ -77,7 +77,7 @@ def overview(visit: Visit, rest: str) -> Answer:
         "state",
         {
             **values,
-            "own": own_programs.programs_in(visit.folder),
+            "own": own_programs.programs_in(visit.election),
             "big": visit.office.address(BIG),
             "result_page": visit.office.address(RESULT),
             "done": visit.run_in("done"),
@@ -107,13 +107,15 @@ def kind_of(name: str) -> str:
 # ---- letters
 def letters_page(visit: Visit, rest: str) -> Answer:
     asking = visit.run_in("run")
-    if asking and not asking.question:
+    here = f"letters/{rest}" if rest else "letters"
+    # what it asks stands on its own page alone
+    if asking and asking.place != f"{here}?run={asking.number}":
         return See(asking.place)
     shown = {"asking": asking, "lines": lines_of(asking.said) if asking else []}
     if not rest:
         page = page_in(visit)
         values = letters.letters_of(visit.election, visit.language, page)
-        own = own_programs.programs_in(visit.folder)
+        own = own_programs.programs_in(visit.election)
         done = visit.run_in("done")
         told = lines_of(done.said) if done else []
         return Page("letters", {**values, **shown, "own": own, "done": done, "told_lines": told})
@@ -194,11 +196,13 @@ def run(visit: Visit, rest: str) -> Answer:
     visit.wait(shown)
     if shown.place != f"run/{shown.number}":
         return See(shown.place)
-    lines = [line for one in row_of(shown) for line in lines_of(one.text)]
+    if shown.words[0] == "desk":
+        raise Refused()
+    lines = [line for one in row_of(shown) for line in lines_of(one.said)]
     question = shown.question
     is_over = shown.status is not None
     if is_over and shown.words[0] == "show" and visit.election.questions.is_secret:
-        shown.forget()
+        shown.said = ""
     values = {
         "run": shown,
         "lines": lines,

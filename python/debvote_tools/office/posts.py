@@ -208,7 +208,7 @@ def fetch(visit: Visit, rest: str) -> Answer:
 
 def agreed(visit: Visit) -> own_programs.OwnPrograms:
     """The programs of the folder. Stops if nobody has agreed to them here."""
-    own = own_programs.programs_in(visit.folder)
+    own = own_programs.programs_in(visit.election)
     if own is None or not own.is_agreed:
         raise Fault(own_programs.FILE, "nobody has agreed to it here", "look at its words first")
     return own
@@ -216,7 +216,7 @@ def agreed(visit: Visit) -> own_programs.OwnPrograms:
 
 def agree(visit: Visit, rest: str) -> Answer:
     """Agrees to the file of programs whose words the page has shown."""
-    own = own_programs.programs_in(visit.folder)
+    own = own_programs.programs_in(visit.election)
     if own is not None and own.digest == first(visit.form, "digest"):
         state.agree(own.digest)
     return See("")

@@ -96,8 +96,7 @@ class Run:
         self.before = before
         self.go_on = go_on
         self.status: int | None = None
-        # all that it wrote, and what since the last answer
-        self.text = ""
+        # what it wrote since the last answer: what was decided is not kept
         self.said = ""
         self.question: Question | None = None
         # the last ballot that was typed, and how many
@@ -137,7 +136,6 @@ class Run:
         return asks + rest
 
     def add(self, text: str) -> None:
-        self.text = (self.text + text)[-MOST:]
         self.said = (self.said + text)[-MOST:]
 
     def take_end(self, unread: str) -> None:
@@ -190,7 +188,6 @@ class Run:
             if question.kind == "ballot":
                 self.ballot = text
                 self.ballots += 1
-            self.text += f"{question.text}{'..' if question.kind == 'password' else text}\n"
             return self.put(text)
 
     def put(self, text: str) -> bool:
@@ -210,12 +207,6 @@ class Run:
             if self.status is None:
                 with contextlib.suppress(ProcessLookupError):
                     os.killpg(self.process.pid, signal.SIGINT)
-
-    def forget(self) -> None:
-        """Keeps nothing of what it wrote."""
-        with self.changed:
-            self.text = ""
-            self.said = ""
 
 
 def lines_of(text: str) -> list[str]:

@@ -4,6 +4,7 @@ import os
 import re
 import signal
 import threading
+import time
 
 from tests.support import elections, offices
 from tests.support.called import CalledTest
@@ -74,7 +75,10 @@ class AtDesk(CalledTest):
         # an answer to a desk whose process ended, and began anew
         text = office.type("dan", "1,2,3,4")
         old = {"asked": office.asked(text), "answer": "y"}
-        os.kill(offices.children(office)[0], signal.SIGKILL)
+        [child] = offices.children(office)
+        os.kill(child, signal.SIGKILL)
+        while offices.is_there(child):
+            time.sleep(0.01)
         self.assertIn(LOST, office.post("desk/1", **old))
         office.type("eve", "4,3,2,1")
         self.assertIn(LOST, office.post("desk/1", **old))

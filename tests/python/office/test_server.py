@@ -50,6 +50,8 @@ class WhoAsks(ElectionTest):
     def test_a_secret_of_a_wall_or_of_a_result_opens_nothing_else(self):
         office = offices.Office(self)
         text = office.page()
+        # no script of another page learns by the referrer what opens all
+        self.assertEqual(text.count("_blank"), text.count('rel="noopener noreferrer"'))
         [big] = re.findall(r'href="http://[^/]*(/[^/"]*/)" target', text)
         self.assertNotEqual(big, office.base)
         status, _, body = office.ask("GET", big)
