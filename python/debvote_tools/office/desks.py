@@ -1,7 +1,6 @@
 """What the page of a desk shows of the ballot that is typed there."""
 
 import dataclasses
-import re
 from collections.abc import Mapping, Sequence
 
 from debvote_tools.book import queries
@@ -18,8 +17,6 @@ from debvote_tools.text.motions import RANKS
 
 DESKS = range(1, 9)
 
-# how a command writes what became of a line (docs/FORMATS.md)
-REPLY = re.compile(r"(\d+) (\S.*?)  ([^:]+)(?:: .*)?")
 # of more electors no list is offered: the desk completes names itself
 MOST_OFFERED = 1_000
 
@@ -113,11 +110,3 @@ def line_of(questions: Questions, form: Form) -> str:
         if ranks:
             parts += [label, ranks] if label else [ranks]
     return " ".join(parts)
-
-
-def replies_in(lines: Sequence[str]) -> list[tuple[str, str, str]]:
-    """Of the lines of a command those that say what became of a ballot: its number, the reply, and
-    whose it is.
-    """
-    found = (REPLY.fullmatch(line) for line in lines)
-    return [(match[1], match[2], match[3]) for match in found if match]

@@ -37,6 +37,8 @@ QUESTION = re.compile(f"{ASKS}([a-z]+){IS_ASKED}([^{ASKED}]*){ASKED}")
 # what a command writes behind a question that takes yes or no, for which the page has buttons
 YES_OR_NO = " [y/n] "
 NEXT = "Next: "
+# how a command writes what became of a line (docs/FORMATS.md)
+REPLY = re.compile(r"(\d+) (\S.*?)  ([^:]+)(?:: .*)?")
 
 
 class Question(NamedTuple):
@@ -99,9 +101,9 @@ class Run:
         # what it wrote since the last answer: what was decided is not kept
         self.said = ""
         self.question: Question | None = None
-        # the last ballot that was typed, and how many
+        # the last ballot that was typed, and how many lines were entered
         self.ballot = ""
-        self.ballots = 0
+        self.entered = 0
         self.process = process
         self.next_number = next_number
         self.changed = threading.Condition()
@@ -129,6 +131,7 @@ class Run:
             if found := QUESTION.search(text):
                 self.add(text[: found.start()])
                 self.question = Question(self.next_number(), found[1], found[2])
+                self.entered += len(replies_in(lines_of(self.said)))
                 text = text[found.end() :]
             whole, asks, rest = text.partition(ASKS)
             self.add(whole)
@@ -187,7 +190,6 @@ class Run:
             self.said = ""
             if question.kind == "ballot":
                 self.ballot = text
-                self.ballots += 1
             return self.put(text)
 
     def put(self, text: str) -> bool:
@@ -215,6 +217,14 @@ def lines_of(text: str) -> list[str]:
     """
     rows = (row.rpartition("\r")[2] for row in text.split("\n"))
     return [row for row in rows if row and not row.startswith(NEXT)]
+
+
+def replies_in(lines: Sequence[str]) -> list[tuple[str, str, str]]:
+    """Of the lines of a command those that say what became of a ballot: its number, the reply, and
+    whose it is.
+    """
+    found = (REPLY.fullmatch(line) for line in lines)
+    return [(match[1], match[2], match[3]) for match in found if match]
 
 
 class Runs:

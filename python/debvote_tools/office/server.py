@@ -25,7 +25,7 @@ from typing import Any
 import jinja2
 
 from debvote_tools.cli.faults import Fault
-from debvote_tools.office import desks, runs
+from debvote_tools.office import runs
 from debvote_tools.office.office import ALL, HOST, Office
 from debvote_tools.office.pages import get
 from debvote_tools.office.posts import post
@@ -189,7 +189,7 @@ class Request(http.server.BaseHTTPRequestHandler):
             "base": visit.base,
             "place": page.template,
             "languages": LANGUAGES,
-            "replies_in": desks.replies_in,
+            "replies_in": runs.replies_in,
             "lines_of": runs.lines_of,
             "is_lost": "lost" in visit.query,
             "folder": visit.office.folder,

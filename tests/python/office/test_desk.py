@@ -22,6 +22,7 @@ class AtDesk(CalledTest):
         self.assertIn("Read it back ada Ada 1 At the lake 2 In the town hall", shown)
         self.assertIn("Enter it?", shown)
         text = office.yes(text)
+        self.assertIn("1 ballot here", offices.seen(text))
         self.assertIn("counted", offices.seen(text))
         self.assert_lines("ada 1,2,3,4")
         self.assertEqual(self.last("desk"), {"lines": 1, "desk": "Desk 1"})
