@@ -8,7 +8,7 @@ import subprocess
 import sys
 import time
 
-from tests.support import elections, offices
+from tests.support import boxes, elections, offices
 from tests.support.elections import ElectionTest
 
 FORM = {"Content-Type": "application/x-www-form-urlencoded"}
@@ -269,3 +269,31 @@ class OwnPrograms(ElectionTest):
             status, _, body = office.ask("GET", office.base)
             self.assertEqual(status, 409, text)
             self.assertIn("office.toml", body.decode())
+
+
+class WithBox(boxes.BoxElectionTest):
+    def test_the_web_host_is_asked_before_and_after_an_upload(self):
+        self.begun(ada="1,2,3,4")
+        words = ["cp", "-r", "{folder}/.", str(self.web)]
+        (self.folder / "office.toml").write_text(f"upload = {words}\n")
+        office = offices.Office(self)
+        [digest] = re.findall(r'name="digest" value="(\w+)"', office.page())
+        office.post("agree", digest=digest)
+        before = self.askings()
+        # what lies there is fetched first; it is asked about, and a no keeps nothing back
+        text = office.post("upload", kind="call")
+        self.assertIn("Enter 1 ballot?", offices.seen(text))
+        text = office.yes(text, "n")
+        self.assertEqual(self.askings(), before + 2)
+        # a program that fails is the last of its row
+        (self.folder / "office.toml").write_text('upload = ["false"]\n')
+        [digest] = re.findall(r'name="digest" value="(\w+)"', office.page())
+        office.post("agree", digest=digest)
+        text = office.post("upload", kind="call")
+        text = office.yes(text, "n") if 'name="asked"' in text else text
+        self.assertIn("<h1>Look at this</h1>", text)
+        self.assertEqual(self.askings(), before + 3)
+
+    def askings(self):
+        query = "SELECT count(*) FROM act WHERE name = 'letters' AND detail ->> 'box' IS NOT NULL"
+        return self.rows(query)[0][0]
