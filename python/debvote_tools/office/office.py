@@ -11,7 +11,7 @@ import time
 from collections.abc import Callable
 from typing import IO
 
-from debvote_tools.election import Election, no_book
+from debvote_tools.election import Election
 from debvote_tools.office import state
 from debvote_tools.office.runs import Runs
 
@@ -95,11 +95,6 @@ class Office:
     def say_page(self) -> None:
         if self.held and self.port:
             state.say_page(self.held, self.page)
-
-    def election(self) -> Election:
-        if self.folder is None:
-            raise no_book(pathlib.Path())
-        return self.election_in(self.folder)
 
     def election_in(self, folder: pathlib.Path) -> Election:
         """An election, whose doubts the page shows, and nothing says on standard error."""

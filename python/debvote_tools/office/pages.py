@@ -6,7 +6,7 @@ from collections.abc import Callable, Mapping
 from debvote_tools.cli.faults import Fault
 from debvote_tools.files import read_at_most
 from debvote_tools.office import acts, desks, drafts, letters, own_programs, state, views
-from debvote_tools.office.office import BIG, RESULT
+from debvote_tools.office.office import ALL, BIG, RESULT
 from debvote_tools.office.runs import Run, lines_of
 from debvote_tools.office.views import Values
 from debvote_tools.office.visit import (
@@ -41,23 +41,19 @@ LARGEST_FILE = 64 * 1024 * 1024
 
 def get(visit: Visit, place: str) -> Answer:
     """The answer to a reading."""
-    name, _, rest = place.partition("/")
     if visit.room == RESULT:
         return result(visit, place)
-    if visit.room == BIG:
-        return big(visit, place)
-    if visit.office.folder is None and name != "run":
-        return folders(visit, place)
-    page = PAGES.get(name)
-    if page is None:
+    name, _, rest = place.partition("/")
+    pages = {BIG: {"": big}, ALL: PAGES if visit.office.folder else {"": folders}}[visit.room]
+    if place in pages:
+        return pages[place](visit)
+    if visit.room == BIG or name not in ROOMS:
         raise Refused()
-    return page(visit, rest)
+    return ROOMS[name](visit, rest)
 
 
 # ---- without an election
-def folders(visit: Visit, place: str) -> Answer:
-    if place:
-        raise Refused()
+def folders(visit: Visit) -> Answer:
     values = {
         "folders": state.folders(),
         "given": first(visit.query, "folder"),
@@ -69,9 +65,7 @@ def folders(visit: Visit, place: str) -> Answer:
 
 
 # ---- the overview
-def overview(visit: Visit, rest: str) -> Answer:
-    if rest:
-        raise Refused()
+def overview(visit: Visit) -> Answer:
     values = views.state_of(visit.election)
     return Page(
         "state",
@@ -85,9 +79,7 @@ def overview(visit: Visit, rest: str) -> Answer:
     )
 
 
-def big(visit: Visit, place: str) -> Answer:
-    if place:
-        raise Refused()
+def big(visit: Visit) -> Answer:
     return Page("big", views.state_of(visit.election))
 
 
@@ -163,23 +155,17 @@ def number_of_desk(text: str) -> int:
 
 
 # ---- roll and draft
-def roll(visit: Visit, rest: str) -> Answer:
-    if rest:
-        raise Refused()
+def roll(visit: Visit) -> Answer:
     return Page("roll", views.roll_of(visit.election, first(visit.query, "find"), page_in(visit)))
 
 
-def draft(visit: Visit, rest: str) -> Answer:
-    if rest:
-        raise Refused()
+def draft(visit: Visit) -> Answer:
     more: Values = {"changed": [], "done": visit.run_in("done")}
     return Page("draft", {**drafts.draft_of(visit.election), **more})
 
 
 # ---- commands
-def all_commands(visit: Visit, rest: str) -> Answer:
-    if rest:
-        raise Refused()
+def all_commands(visit: Visit) -> Answer:
     prints = views.prints_of(visit.election)
     return Page("all", {"phases": acts.phases(), "prints": prints, "runs": visit.office.runs.all})
 
@@ -231,13 +217,16 @@ def printed(visit: Visit, rest: str) -> Answer:
         raise Fault(rest, error.strerror, "make it again with its command") from None
 
 
-PAGES: Mapping[str, Callable[[Visit, str], Answer]] = {
+PAGES: Mapping[str, Callable[[Visit], Answer]] = {
     "": overview,
-    "letters": letters_page,
-    "desk": desk,
     "roll": roll,
     "draft": draft,
     "all": all_commands,
+}
+# those of which there are several
+ROOMS: Mapping[str, Callable[[Visit, str], Answer]] = {
+    "letters": letters_page,
+    "desk": desk,
     "do": do,
     "run": run,
     "print": printed,

@@ -8,7 +8,6 @@ from debvote_tools.commands.held import NOT_TIED, VOTED_SINCE
 from debvote_tools.election import CALL, RESULT
 from debvote_tools.outbox.steps import SAID, published_place
 from debvote_tools.office import acts, desks, drafts, own_programs, state
-from debvote_tools.office.office import ALL
 from debvote_tools.office.pages import number_of_desk
 from debvote_tools.office.runs import Place, Run, Task
 from debvote_tools.office.visit import (
@@ -31,12 +30,13 @@ LONGEST_NAME = 40
 def post(visit: Visit, place: str) -> Answer:
     """Does what a form asks for, and names the page that follows."""
     name, _, rest = place.partition("/")
-    act = FORMS.get(name)
-    if act is None or visit.room != ALL:
-        raise Refused()
     if visit.office.folder is None and name not in WITHOUT:
         raise Refused()
-    return act(visit, rest)
+    if place in FORMS:
+        return FORMS[place](visit)
+    if name not in ROOMS:
+        raise Refused()
+    return ROOMS[name](visit, rest)
 
 
 def follow(visit: Visit, run: Run) -> Answer:
@@ -52,7 +52,7 @@ def answered(visit: Visit, run: Run) -> bool:
 
 
 # ---- without an election
-def folder(visit: Visit, rest: str) -> Answer:
+def folder(visit: Visit) -> Answer:
     path = first(visit.form, "folder").strip()
     if not path:
         return See("")
@@ -64,7 +64,7 @@ def folder(visit: Visit, rest: str) -> Answer:
     return See("")
 
 
-def new(visit: Visit, rest: str) -> Answer:
+def new(visit: Visit) -> Answer:
     path = pathlib.Path(first(visit.form, "folder").strip()).expanduser()
     if not path.is_absolute():
         raise bad_words(path, "it is no whole path", "write it from its first slash on", None)
@@ -166,7 +166,7 @@ def is_typed(visit: Visit, run: Run) -> bool:
 
 
 # ---- the draft
-def draft(visit: Visit, rest: str) -> Answer:
+def draft(visit: Visit) -> Answer:
     try:
         drafts.save(visit.election, visit.form)
     except drafts.Changed as changed:
@@ -176,7 +176,7 @@ def draft(visit: Visit, rest: str) -> Answer:
 
 
 # ---- what goes to the web, and comes from there
-def upload(visit: Visit, rest: str) -> Answer:
+def upload(visit: Visit) -> Answer:
     """Puts the folder on the web, between two askings of the web box: after the first one nothing
     is on the host that is not here, and letters of the call need the second one.
     """
@@ -197,7 +197,7 @@ def upload(visit: Visit, rest: str) -> Answer:
     return follow(visit, visit.office.runs.start(*tasks))
 
 
-def fetch(visit: Visit, rest: str) -> Answer:
+def fetch(visit: Visit) -> Answer:
     own = agreed(visit)
     if not own.fetch:
         raise Refused()
@@ -214,7 +214,7 @@ def agreed(visit: Visit) -> own_programs.OwnPrograms:
     return own
 
 
-def agree(visit: Visit, rest: str) -> Answer:
+def agree(visit: Visit) -> Answer:
     """Agrees to the file of programs whose words the page has shown."""
     own = own_programs.programs_in(visit.election)
     if own is not None and own.digest == first(visit.form, "digest"):
@@ -238,26 +238,29 @@ def language(visit: Visit, rest: str) -> Answer:
     return See("")
 
 
-def end(visit: Visit, rest: str) -> Answer:
+def end(visit: Visit) -> Answer:
     visit.office.stop()
     return Page("ended", {})
 
 
-FORMS: Mapping[str, Callable[[Visit, str], Answer]] = {
+FORMS: Mapping[str, Callable[[Visit], Answer]] = {
     "folder": folder,
     "new": new,
+    "draft": draft,
+    "upload": upload,
+    "fetch": fetch,
+    "agree": agree,
+    "end": end,
+}
+# those of which there are several
+ROOMS: Mapping[str, Callable[[Visit, str], Answer]] = {
     "do": do,
     "run": run,
     "end-run": end_run,
     "letters": letters,
     "desk": desk,
-    "draft": draft,
-    "upload": upload,
-    "fetch": fetch,
-    "agree": agree,
     "done": done,
     "language": language,
-    "end": end,
 }
 # those that need no election
 WITHOUT = ("folder", "new", "run", "end-run", "language", "end")

@@ -5,7 +5,7 @@ import functools
 import http
 import pathlib
 from collections.abc import Mapping, Sequence
-from typing import Any
+from typing import Any, NamedTuple
 
 from debvote_tools.election import Election
 from debvote_tools.office.office import Office
@@ -27,8 +27,7 @@ class Refused(Exception):
         self.status = status
 
 
-@dataclasses.dataclass(frozen=True)
-class Page:
+class Page(NamedTuple):
     """A page that is made of a template."""
 
     template: str
@@ -36,20 +35,18 @@ class Page:
     status: http.HTTPStatus = http.HTTPStatus.OK
 
 
-@dataclasses.dataclass(frozen=True)
-class See:
+class See(NamedTuple):
     """Another page follows, so that to load it again sends nothing again."""
 
     place: str
 
 
-@dataclasses.dataclass(frozen=True)
-class File:
-    """Bytes as they are, with a policy of their own unless it is empty."""
+class File(NamedTuple):
+    """Bytes as they are, with a policy of their own."""
 
     data: bytes
     kind: str
-    policy: str = ""
+    policy: str
 
 
 Answer = Page | See | File
@@ -78,7 +75,7 @@ class Visit:
     def election(self) -> Election:
         self.office.reading.acquire()
         try:
-            return self.office.election()
+            return self.office.election_in(self.folder)
         except BaseException:
             self.office.reading.release()
             raise
@@ -100,16 +97,17 @@ class Visit:
     def language(self) -> Language:
         return language_of(self.office.code)
 
+    def run(self, number: str) -> Run | None:
+        return self.office.runs.all.get(int(number)) if is_number(number) else None
+
     def run_of(self, number: str) -> Run:
-        run = self.office.runs.all.get(int(number)) if is_number(number) else None
-        if run is None:
+        if (run := self.run(number)) is None:
             raise Refused()
         return run
 
     def run_in(self, key: str) -> Run | None:
         """The command that the address of the page names, if it is there."""
-        number = first(self.query, key)
-        return self.office.runs.all.get(int(number)) if is_number(number) else None
+        return self.run(first(self.query, key))
 
 
 def is_number(text: str) -> bool:
