@@ -30,6 +30,7 @@ complete -c debvote-election -n "__fish_seen_subcommand_from roll" -l yes -d "Af
 complete -c debvote-election -n "__fish_seen_subcommand_from roll" -l new-link -x -d "After a call with a web box: make a new link for this elector, for whom it takes no more."
 complete -c debvote-election -n "__fish_seen_subcommand_from roll" -l moved -d "Go on although the election was moved here, or an older copy was restored; the result page says so."
 complete -c debvote-election -n "__fish_seen_subcommand_from roll" -l because -x -d "The reason, in your words, for --moved, --force, strike or reopen."
+complete -c debvote-election -n "__fish_seen_subcommand_from check" -l preview -x -a "(__fish_complete_directories)" -d "Make this folder, with page and letters as the call would make them, and in a secret vote a slip."
 complete -c debvote-election -n "__fish_seen_subcommand_from codes" -l on-roll -d "Put codes on the roll in place of names, so that nobody knows who has which code."
 complete -c debvote-election -n "__fish_seen_subcommand_from codes" -l moved -d "Go on although the election was moved here, or an older copy was restored; the result page says so."
 complete -c debvote-election -n "__fish_seen_subcommand_from codes" -l because -x -d "The reason, in your words, for --moved, --force, strike or reopen."

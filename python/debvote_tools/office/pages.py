@@ -34,7 +34,10 @@ RESULT_POLICY = "sandbox allow-scripts allow-downloads; frame-ancestors 'none'"
 PRINT_POLICY = "sandbox; default-src 'none'; style-src 'unsafe-inline'; frame-ancestors 'none'"
 
 # what is to be printed, by its place in the folder
-PRINTED = re.compile(r"letters/[a-z]+/\d+/to-print\.html|private/slips\.html")
+PRINTED = re.compile(
+    r"letters/[a-z]+/\d+/to-print\.html|private/slips\.html"
+    r"|preview(?:-\d+)?/(?:index\.html|slip\.html|letter\.txt)"
+)
 # in bytes
 LARGEST_FILE = 64 * 1024 * 1024
 
@@ -204,17 +207,18 @@ def row_of(run: Run) -> list[Run]:
 
 
 def printed(visit: Visit, rest: str) -> Answer:
-    """What was made to be printed, as it is, without scripts."""
+    """What was made to be printed, or looked at before the call, as it is."""
     if not PRINTED.fullmatch(rest):
         raise Refused()
     try:
-        return File(
-            read_at_most(visit.election.path(rest), LARGEST_FILE), "text/html", PRINT_POLICY
-        )
+        data = read_at_most(visit.election.path(rest), LARGEST_FILE)
     except FileNotFoundError:
         raise Refused() from None
     except OSError as error:
         raise Fault(rest, error.strerror, "make it again with its command") from None
+    # the page of a call shows ranks as buttons by its own script
+    policy = RESULT_POLICY if rest.endswith("index.html") else PRINT_POLICY
+    return File(data, kind_of(rest), policy)
 
 
 PAGES: Mapping[str, Callable[[Visit], Answer]] = {

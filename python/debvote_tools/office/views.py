@@ -18,12 +18,16 @@ from debvote_tools.poll.questions import Questions, place_of
 from debvote_tools.result.facts import PublishedWords
 from debvote_tools.result.file_names import CHECKSUMS, SHEET
 from debvote_tools.result.page import named_in_html
+from debvote_tools.result.places import other_place
 from debvote_tools.result.why import Why
 from debvote_tools.sheet import sheet_in
 from debvote_tools.text import times
 
 Values = dict[str, Any]
 
+# a folder with what a call would send, and what of it is looked at
+PREVIEW = "preview"
+PREVIEWED = ("index.html", "letter.txt")
 # how many electors or letters are on a page
 ROWS = 100
 
@@ -48,6 +52,7 @@ def state_of(election: Election) -> Values:
         "results": results_of(election, history, questions),
         "dues": dues,
         "prints": prints_of(election),
+        **previews_of(election),
         "next_folder": "".join(next_place(election)),
     }
 
@@ -121,6 +126,15 @@ def prints_of(election: Election) -> list[str]:
         election.path(PRIVATE) / SLIPS,
     ]
     return [str(file.relative_to(election.folder)) for file in files if file.is_file()]
+
+
+def previews_of(election: Election) -> Values:
+    """What the last preview has made, before the call, and where the next one may be."""
+    folders = sorted(election.folder.glob(f"{PREVIEW}*"), key=lambda one: one.stat().st_mtime)
+    return {
+        "previews": [f"{folder.name}/{file}" for folder in folders[-1:] for file in PREVIEWED],
+        "next_preview": other_place(election.path(PREVIEW)).name if folders else PREVIEW,
+    }
 
 
 # ---- the roll

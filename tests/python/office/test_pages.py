@@ -203,6 +203,16 @@ class Drafts(ElectionTest):
         self.assertIn("# The quorum, as a multiple", (self.folder / "poll.toml").read_text())
         self.assertEqual((self.folder / "letter.txt").read_text(), "Hello\n")
         self.assertEqual(self.election("check").status, 0)
+        # what the call would send is looked at before it, each time anew
+        for folder in ("preview", "preview-2"):
+            self.assertIn(f'do/check?preview={folder}"', office.page())
+            text = office.post("do/check", preview=folder)
+            self.assertIn(f"Made the folder {folder}", offices.seen(text))
+            self.assertIn(f"print/{folder}/letter.txt", office.page())
+            self.assertIn("Hello", office.page(f"print/{folder}/letter.txt"))
+            self.assertIn("Kaufen", office.page(f"print/{folder}/index.html"))
+        self.assertEqual(self.election("check", "--preview", "preview").status, 2)
+        self.assertEqual({*self.rows("SELECT name FROM act")}, {("new",), ("roll",)})
         # what lies there now is another file: nothing is written, and both are shown
         before = self.contents()
         text = office.post("draft", **{**fields, "title": "Another one"})
@@ -222,3 +232,21 @@ class Drafts(ElectionTest):
         digests = re.findall(r'name="digest" value="(.*?)"', text)
         text = office.post("draft", **{**fields, "digest": digests})
         self.assertIn("with an editor", text)
+
+
+class PreviewOfSecretVote(ElectionTest):
+    call_words = None
+    poll = POLL + "secret = true\n"
+
+    def test_names_are_aliases_as_in_the_call(self):
+        self.done("check", "--preview", "early")
+        self.assertFalse((self.folder / "early" / "slip.html").exists())
+        self.done("codes")
+        self.done("check", "--preview", "preview")
+        [(code,)] = self.rows("SELECT code FROM elector_now WHERE name = 'ada'")
+        self.assertIn(code, self.read("preview/slip.html").decode())
+        page = self.read("preview/index.html").decode()
+        self.assertNotIn(code, page)
+        self.assertEqual((self.folder / "preview").stat().st_mode & 0o777, 0o700)
+        self.done("call")
+        self.assertEqual(self.read("call/poll.toml"), self.read("preview/poll.toml"))
