@@ -46,7 +46,7 @@ class AtDesk(CalledTest):
         for name, ranks in (("ada", "1,2"), ("nobody", "1,2,3,4")):
             text = office.type(name, ranks)
             self.assertIn('class="outcome asking doubtful"', text)
-            self.assertIn("Das ist kein Stimmzettel", text)
+            self.assertIn("Was zurückgewiesen wird, zählt nicht.", text)
             [first] = re.findall(r'<button class="first" name="answer" value="(.*?)"', text)
             self.assertIn('name="asked"', text)
             text = office.yes(text, first)
