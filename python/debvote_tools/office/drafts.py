@@ -8,7 +8,7 @@ import json
 import pathlib
 import re
 import tomllib
-from collections.abc import Mapping, Sequence
+from collections.abc import Mapping
 from typing import Any
 
 from debvote_tools.call.draft import BY_EDITOR, labels_in
@@ -24,14 +24,6 @@ from debvote_tools.text.motions import WORDS
 MORE = 3
 # a file that is not there
 NOWHERE = ""
-
-
-class Changed(Exception):
-    """Files that are others than those from which a form was drawn, by their names."""
-
-    def __init__(self, names: Sequence[str]) -> None:
-        super().__init__(", ".join(names))
-        self.names = names
 
 
 def draft_of(election: Election) -> Values:
@@ -107,9 +99,10 @@ def read_poll(file: pathlib.Path) -> Mapping[str, Any]:
 
 
 # ---- what is written
-def save(election: Election, form: Form) -> None:
+def save(election: Election, form: Form) -> list[str]:
     """Writes what the form changes: the polls until the call, the members and the words above
-    letters until the close. Raises `Changed`, and then nothing was written.
+    letters until the close. Returns the files that are others than those from which it was drawn;
+    if there are some, nothing was written.
     """
     history = election.history()
     new = dict[str, str]()
@@ -122,17 +115,18 @@ def save(election: Election, form: Form) -> None:
         }
     drawn = dict(zip(form.get("file", ()), form.get("digest", ())))
     if others := [name for name in new if digest_of(election.path(name)) != drawn.get(name)]:
-        raise Changed(others)
+        return others
     for name, text in new.items():
         file = election.path(name)
         is_new = digest_of(file) == NOWHERE
         if text != text_of(file) and (text or not is_new):
             write_whole(file, text.encode(), 0o600)
+    return []
 
 
 def plain(form: Form, field: str) -> str:
     """A text with line feeds alone, of which the last line ends, too."""
-    text = "\n".join(first(form, field).splitlines()).rstrip("\n")
+    text = first(form, field).replace("\r\n", "\n").rstrip("\n")
     return f"{text}\n" if text else ""
 
 

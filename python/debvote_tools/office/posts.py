@@ -167,10 +167,8 @@ def is_typed(visit: Visit, run: Run) -> bool:
 
 # ---- the draft
 def draft(visit: Visit) -> Answer:
-    try:
-        drafts.save(visit.election, visit.form)
-    except drafts.Changed as changed:
-        shown = {"changed": changed.names, "form": visit.form, "done": None}
+    if changed := drafts.save(visit.election, visit.form):
+        shown = {"changed": changed, "form": visit.form, "done": None}
         return Page("draft", {**drafts.draft_of(visit.election), **shown})
     return follow(visit, visit.office.runs.command("roll", places=Place(done="draft")))
 
