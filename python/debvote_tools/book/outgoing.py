@@ -212,7 +212,8 @@ WHERE kind = 'receipts' AND (
   )
 )
 """
-# the electors on the list with envelopes after an act, ?2, of which no receipt tells as they are now
+# the electors on the list with envelopes after an act, ?2, of which no receipt tells as they are
+# now
 UNTOLD = f"""
 SELECT DISTINCT elector FROM entered JOIN elector_now USING (elector) WHERE position IS NOT NULL
 AND max(entered.act, coalesce(struck, 0)) > ?2 AND (elector, 'envelope', envelope, struck IS NOT NULL) NOT IN ({TOLD})
