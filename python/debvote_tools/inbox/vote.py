@@ -295,6 +295,14 @@ class Vote:
             for part in in_parts(asked[first:])
         )
 
+    def cure_by_reason(self, source: str, lines: Iterable[CheckedLine]) -> str:
+        """The cure where lines are no ballots, or look like a table: it names the first that is
+        none, since a wrong name there may be all that is wrong.
+        """
+        refused = next(line for line in lines if not line.is_ballot)
+        shown = f"{refused.original.where}: {self.in_words(refused)}"
+        return f"look at {source} ({shown}), and {IN_ORDER}"
+
     def as_asked(self, line: CheckedLine) -> bytes:
         """A line as debvote is asked whether it is one of a table: a ballot as it is meant, another
         line as it came. A word of a motion counts as a rank, but is none of the ranks of a head.
@@ -367,12 +375,11 @@ class Vote:
         word = "" if line.finding.word == reply else f"{line.finding.word}: "
         # so that nobody takes one elector for another
         others = self.other_names(line.finding.near)
-        names = f" (or {ENGLISH.joined(others)})" if others else ""
+        why = f"{line.finding.hint}{f' (or {ENGLISH.joined(others)})' if others else ''}"
         is_code = has_code(line.as_meant.decode("utf-8", "replace")) and not self.has_codes
-        why = f"{line.finding.hint}{names}"
-        # a name alone
-        why = why if line.finding.near else private(why)
-        return f"{shown_line(line.as_entered)}: {word}{why}{IS_CODE if is_code else ''}"
+        # a name alone is told
+        said = why if line.finding.near else private(why)
+        return f"{shown_line(line.as_entered)}: {word}{said}{IS_CODE if is_code else ''}"
 
     def with_answers(
         self, words: str, answers: str, indent: str = "  ", *, is_short: bool = False
@@ -395,8 +402,7 @@ class Vote:
 
     def are_many(self, ballots: Iterable[str]) -> bool:
         """Whether ballots of several questions have more lines in words than are read at once."""
-        are_many = self.is_several and sum(map(len, map(answers_of, ballots))) > MOST_ANSWERS
-        return are_many and not hides()
+        return self.is_several and sum(map(len, map(answers_of, ballots))) > MOST_ANSWERS
 
     @property
     def show_words(self) -> str:

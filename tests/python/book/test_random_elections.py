@@ -147,9 +147,10 @@ class Model:
     # the letters that a close or a publication left waiting; and what receipts have told
     left: set[int] = dataclasses.field(default_factory=set)
     receipts: set[tuple[str, str, int, bool]] = dataclasses.field(default_factory=set)
-    # what a page tells, of an undo its envelopes; and the earlier results
+    # what a page tells, of an undo its envelopes; and the earlier results, each with how many closes
+    # were before it
     told: list[str | list[Envelope]] = dataclasses.field(default_factory=list)
-    earlier: list[str] = dataclasses.field(default_factory=list)
+    earlier: list[tuple[int, str]] = dataclasses.field(default_factory=list)
 
     # ---- what is in the book
     def kept(self, label: str | None = None, *, late: bool = False) -> list[Envelope]:
@@ -230,14 +231,19 @@ class Model:
         only below such as were above them before.
         """
         own = [other for other in self.envelopes if other.name == one.name and not other.is_late]
-        above = [other for other in own if other.number < one.number and other.out == "undo"]
+        gone = [other for other in own if other.out == "undo" and other.is_ballot]
         since = [other for other in own if other.number > one.number and not other.out]
         again = set()
         for place, other in enumerate(since, start=1):
             for label, ranks in other.answers.items():
-                turned = {earlier.answers.get(label) for earlier in above} - {ranks, None}
+                above = {old.answers.get(label) for old in gone if old.number < one.number}
+                turned = above - {ranks, None}
+                is_last = not any(
+                    old.act == one.act and old.number > one.number and label in old.answers
+                    for old in gone
+                )
                 are_turned = any(later.answers.get(label) in turned for later in since[place:])
-                if one.answers.get(label) == ranks and not are_turned:
+                if one.answers.get(label) == ranks and not (is_last and are_turned):
                     again.add(label)
         is_out = one.out == "undo" and one.is_ballot and not one.is_late
         return is_out and not one.answers.keys() <= again
@@ -394,6 +400,11 @@ class Model:
         self.closes.append(self.now)
         self.is_closed = True
         self.acts += 1
+
+    def replaced(self) -> list[str]:
+        """The earlier results that a page tells above its own: ballots may have changed since."""
+        closes = len(self.closes) if self.is_closed else len(self.closes) + 1
+        return [told for before, told in self.earlier if before < closes]
 
     def all_told(self) -> list[str]:
         """The acts that a page tells: of an undo what is lost by it; and how many lines came after the end, and count."""
@@ -782,10 +793,9 @@ class Played:
         left = ", ".join(OPTIONS[int(number) - 1] for number in numbers)
         checksum = hashlib.sha256(self.read(f"{name}/SHA256SUMS")).hexdigest()
         how = f"{'A tie' if ended.status else 'Winner'}: {left}."
-        model.earlier.append(
-            f"A result was published, whose SHA256SUMS has the checksum {checksum}. {how}"
-        )
-        model.told.append(model.earlier[-1])
+        told = f"A result was published, whose SHA256SUMS has the checksum {checksum}. {how}"
+        model.earlier.append((len(model.closes), told))
+        model.told.append(told)
         if model.is_closed:
             model.leave()
         model.acts += 1
@@ -827,7 +837,7 @@ class Played:
         self.assertEqual([text for text in in_letter if text not in letter], [])
         before = "<p>This result takes the place of an earlier one. .*?: (.*?)</p>"
         earlier = re.findall(before, re.sub("</?(?:code|bdi)>", "", page), re.S)
-        self.assertEqual(earlier, model.earlier)
+        self.assertEqual(earlier, model.replaced())
         self.assertEqual(letter.count("of an earlier one."), len(earlier))
         late = len(model.kept(late=True))
         self.assertEqual(

@@ -2,6 +2,7 @@
 
 import email
 import json
+import re
 
 from tests.support.letters import TEN, letter
 from tests.support.outgoing import parsed
@@ -442,7 +443,9 @@ class Told(QuestionsTest):
         said = self.told("status")
         self.assertIn("Question A: Raise the fee to 72 Euro: 2 electors answered\n", said)
         self.assertIn("Question B: The chair of the board: 1 elector answered\n", said)
-        self.assertIn("Question C: A new roof: 0 electors answered\n", said)
+        # one line for equal quorums
+        self.assertIn("Question C: A new roof: 0 electors answered\nQuorum: 2 votes (1Q)", said)
+        self.assertEqual(said.count("Quorum: "), 1)
         # ben has a ballot, but none of the question whose answer was refused
         self.assertIn(
             "  envelope 4: ben B 1,2\n    bad rank count: 2 ranks, the poll has 3 options\n", said
@@ -511,3 +514,32 @@ class Many(QuestionsTest):
         self.assertTrue(lines[first + 13].startswith("m14 (letter 16, written"), said)
         self.assertEqual(lines[first + 14], "Each in words: debvote-election show NAME")
         self.assertIn("\n3 replaced  m01\n4 replaced  m02\n5 counted  m03\n", said)
+
+
+class OfAMotion(QuestionsTest):
+    polls = QuestionsTest.polls | {"A": f"{QuestionsTest.polls['A']}motion = true\n"}
+
+    def test_a_letter_answers_it_where_no_label_is_typed(self):
+        desk = Terminal(self, "desk", "--question", "a")
+        words = "\nIn place of the ranks of a motion: yes, no, abstain, y, n, a.\n"
+        self.assertIn(words, desk.until("Ballot: "))
+        self.assertIn("Euro): No\n", desk.after("ada n\n", ASKED))
+        desk.after("y\n", "Ballot: ")
+        desk.ends("q\n")
+        desk = Terminal(self)
+        self.assertIn(words.replace(", y, n, a", ""), desk.until("Ballot: "))
+        self.assertIn("`ben A n` is no ballot", desk.after("ben A n\n", "Ballot: "))
+        desk.ends("q\n")
+        self.assertEqual(self.lines(), ["ada A 2,1"])
+
+
+class Quorums(QuestionsTest):
+    polls = {
+        label: poll.replace("quorum = 1", f"quorum = {int(label != 'B')}")
+        for label, poll in QuestionsTest.polls.items()
+    }
+    poll = "".join(polls.values())
+
+    def test_each_is_told(self):
+        found = re.findall(r"(?m)^Question (.).*\n  Quorum: (\w+)", self.told("status"))
+        self.assertEqual(found, [("A", "2"), ("B", "none"), ("C", "2")])
