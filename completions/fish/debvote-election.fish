@@ -31,6 +31,7 @@ complete -c debvote-election -n "__fish_seen_subcommand_from roll" -l yes -d "Af
 complete -c debvote-election -n "__fish_seen_subcommand_from roll" -l new-link -x -d "After a call with a web box: make a new link for this elector, for whom it takes no more."
 complete -c debvote-election -n "__fish_seen_subcommand_from roll" -l moved -d "Go on although the election was moved here, or an older copy was restored; the result page says so."
 complete -c debvote-election -n "__fish_seen_subcommand_from roll" -l because -x -d "The reason, in your words, for --moved or --force."
+complete -c debvote-election -n "__fish_seen_subcommand_from check" -l preview -x -a "(__fish_complete_directories)" -d "Make this folder, with page and letters as the call would make them, and in a secret vote a slip."
 complete -c debvote-election -n "__fish_seen_subcommand_from codes" -l on-roll -d "Put codes on the roll in place of names, so that nobody knows who has which code."
 complete -c debvote-election -n "__fish_seen_subcommand_from codes" -l moved -d "Go on although the election was moved here, or an older copy was restored; the result page says so."
 complete -c debvote-election -n "__fish_seen_subcommand_from codes" -l because -x -d "The reason, in your words, for --moved or --force."
@@ -67,6 +68,7 @@ complete -c debvote-election -n "__fish_seen_subcommand_from add" -l came-before
 complete -c debvote-election -n "__fish_seen_subcommand_from add" -l moved -d "Go on although the election was moved here, or an older copy was restored; the result page says so."
 complete -c debvote-election -n "__fish_seen_subcommand_from add" -l because -x -d "The reason, in your words, for --moved or --force."
 complete -c debvote-election -n "__fish_seen_subcommand_from add" -F
+complete -c debvote-election -n "__fish_seen_subcommand_from desk" -l name -x -d "The name of this desk, as `Table 2`: log, show and receipts tell where a ballot was."
 complete -c debvote-election -n "__fish_seen_subcommand_from desk" -l question -x -d "Of several questions the one that is answered: type the ballot without its label."
 complete -c debvote-election -n "__fish_seen_subcommand_from desk" -l force -d "From a pipe: enter also late ballots that came before the first close, and replace others in time."
 complete -c debvote-election -n "__fish_seen_subcommand_from desk" -l came-before-close -x -a "yes no" -d "After reopen: whether the ballots came before the first close (default: ask at the terminal)."

@@ -203,7 +203,7 @@ class PagesTest(expecting.Expecting):
             self.expect("docs/make-manual", output_of(ROOT / "docs" / "make-manual", folder), "")
             made = pathlib.Path(folder)
             files = [file for file in made.rglob("*") if file.is_file()]
-            self.expect("docs/make-manual: files", len(files), 8)
+            self.expect("docs/make-manual: files", len(files), 12)
             for file in files:
                 there = ROOT / file.relative_to(made)
                 is_of_today = there.read_text() == file.read_text()

@@ -44,6 +44,7 @@ KEYS = {
     "-": (189, "-"),
 }
 KEYS |= {digit: (ord(digit), digit) for digit in "0123456789"}
+KEYS |= {"Escape": (27, "")} | {sign: (ord(sign.upper()), sign) for sign in "aejny"}
 
 # what the page of a call shows once a name is typed and ranks are chosen
 CHOOSE = """((name, ranks) => {

@@ -36,7 +36,7 @@ RESTORED = "it was restored, as the secretary says"
 # "dbvt"; the version of the schema, and of what is kept of letters as JSON; and the program that
 # wrote the books of an earlier version
 APPLICATION_ID = 0x64627674
-VERSION = 6
+VERSION = 7
 PROGRAMS = {3: "debvote-election 2.0.0", 4: "debvote-election 2.1.0"}
 
 # how a database of SQLite begins, how many bytes say what it is, and where these have the version
@@ -90,7 +90,7 @@ ActName = (
 #   call: tellers, their points by their names, in the order in which they open
 #   take back: call, its act; codes, how many have lapsed
 #   letters: letters, and box, what the web box had; add: files, lines, letters,
-#     unsigned, and passed_over, how many came before; desk: lines
+#     unsigned, and passed_over, how many came before; desk: lines, and desk, its name
 #   add, desk: came_before_close, after reopen
 #   set aside, put back: letters; enter: letters, and lines, empty if the ballot was typed
 #   undo: act, that it takes back; strike: envelope

@@ -28,6 +28,13 @@ MACHINE_DIGITS = 16
 ROOM = 20 + 64 + 25 * 40
 
 
+def state_folder() -> pathlib.Path:
+    """Where programs keep what outlasts them."""
+    base = os.environ.get("XDG_STATE_HOME", "")
+    state = pathlib.Path(base) if os.path.isabs(base) else pathlib.Path.home() / ".local/state"
+    return state / "debvote"
+
+
 def machine_of(salt: bytes) -> str:
     """This machine as the acts of a book name it. It differs by the random bytes of the first act,
     so that two books do not show that they are of one machine.
@@ -48,12 +55,10 @@ class Note(NamedTuple):
 
 
 class MachineNote:
-    """The note of a machine about the book at a path, where programs keep what outlasts them."""
+    """The note of a machine about the book at a path."""
 
     def __init__(self, machine: str, path: pathlib.Path) -> None:
-        base = os.environ.get("XDG_STATE_HOME", "")
-        state = pathlib.Path(base) if os.path.isabs(base) else pathlib.Path.home() / ".local/state"
-        self.folder = state / "debvote"
+        self.folder = state_folder()
         self.path = str(path)
         self.file = self.folder / sha256_of(f"{machine}\n".encode() + os.fsencode(path))[:40]
         # to which book the call of each key of a teller belongs, that this machine has seen

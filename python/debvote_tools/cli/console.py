@@ -17,7 +17,7 @@ import sys
 import textwrap
 import unicodedata
 from collections.abc import Callable, Iterable, Iterator, Sequence
-from typing import IO, NoReturn
+from typing import IO, Literal, NoReturn
 
 from debvote_tools.cli.faults import Fault, Status
 from debvote_tools.text.times import offset_of
@@ -34,6 +34,18 @@ WHOSE = contextvars.ContextVar[Callable[[bytes], str] | None]("whose", default=N
 IS_ASKED_FOR = contextvars.ContextVar[bool]("is asked for", default=False)
 NOT_SHOWN = "(not shown)"
 
+
+# set where the office runs a command: a person is there, who sees what it writes and answers. A
+# question stands between characters that no other text has (`written`), and before it what is
+# asked, so that nobody has to know it by its words
+AT_OFFICE = "DEBVOTE_OFFICE" in os.environ
+ASKS = "\x05"
+IS_ASKED = "\x1f"
+ASKED = "\x06"
+
+# what is asked for: a ballot, one of a list, a yes, a word that enters what would not count, or a
+# password
+Kind = Literal["ballot", "choice", "yes", "refused", "password"]
 
 # of a command that came to no good end
 REPORTED = "what the command has reported is done"
@@ -79,11 +91,21 @@ def has_output() -> bool:
 
 def is_terminal() -> bool:
     """Whether a person is there, who sees the output and can answer."""
-    return sys.stdin is not None and sys.stdin.isatty() and shows()
+    return is_typed() and shows()
+
+
+def is_typed() -> bool:
+    """Whether what comes by standard input is typed."""
+    return sys.stdin is not None and (AT_OFFICE or sys.stdin.isatty())
+
+
+def has_input() -> bool:
+    """Whether standard input has something to be read: at the office it has answers alone."""
+    return sys.stdin is not None and not AT_OFFICE
 
 
 def shows() -> bool:
-    return sys.stdout is not None and sys.stdout.isatty()
+    return sys.stdout is not None and (AT_OFFICE or sys.stdout.isatty())
 
 
 def tell(*lines: str) -> None:
@@ -138,20 +160,31 @@ def failed(program: str, words: str, status: int) -> int:
     return status
 
 
-def typed(question: str) -> bytes | None:
+def typed(question: str, kind: Kind) -> bytes | None:
     """The answer to a question, with its line end; None at the end of the input."""
-    tell_as_it_is(written(question))
+    question = written(question)
+    tell_as_it_is(f"{ASKS}{kind}{IS_ASKED}{question}{ASKED}" if AT_OFFICE else question)
     line = sys.stdin.buffer.readline()
     if not line:
         tell("")
     return line or None
 
 
+def typed_unseen(question: str) -> str:
+    """A password that is typed; empty at the end of the input."""
+    if AT_OFFICE:
+        return (typed(question, "password") or b"").decode().rstrip("\n")
+    # few runs need it
+    import getpass
+
+    return getpass.getpass(question)
+
+
 def is_yes(question: str) -> bool | None:
     """Whether the answer is yes; None at the end of the input. After another answer it asks
     again.
     """
-    while (answer := typed(f"{question} [y/n] ")) is not None:
+    while (answer := typed(f"{question} [y/n] ", "yes")) is not None:
         word = answer.strip().lower()
         if word in (b"y", b"yes", b"n", b"no"):
             return word.startswith(b"y")
@@ -224,8 +257,8 @@ def hides() -> bool:
 
 
 def is_all_seen() -> bool:
-    """Whether all that is told is seen at a terminal: cron sends by mail what a command tells."""
-    return all(output and output.isatty() for output in (sys.stdout, sys.stderr))
+    """Whether a person sees all that is told: cron sends by mail what a command tells."""
+    return AT_OFFICE or all(output and output.isatty() for output in (sys.stdout, sys.stderr))
 
 
 @contextlib.contextmanager

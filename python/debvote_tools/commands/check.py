@@ -1,5 +1,6 @@
 """The command `check`, and what is checked of a draft before anything is sealed."""
 
+import dataclasses
 import itertools
 import operator
 import os
@@ -27,9 +28,10 @@ from debvote_tools.call.draft import (
     title_in,
 )
 from debvote_tools.call.members import AGAIN, Roll, label_of, roll_of
-from debvote_tools.cli.arguments import Options
+from debvote_tools.cli.arguments import Options, option
 from debvote_tools.cli.console import count_of, listed, quorum_words, shown_text, tell, wrapped
 from debvote_tools.cli.faults import Fault, bad_words, kept_in, stop_at
+from debvote_tools.commands.export import demand_new
 from debvote_tools.election import (
     LETTER_TEXT,
     MEMBERS_FILE,
@@ -38,8 +40,9 @@ from debvote_tools.election import (
     TEXTS,
     Election,
     History,
+    Sealed,
 )
-from debvote_tools.files import TABLE_LIMIT, read_whole
+from debvote_tools.files import OWN, TABLE_LIMIT, read_whole, write_made
 from debvote_tools.inbox.letter_text import reading_of
 from debvote_tools.inbox.lines import names_of
 from debvote_tools.outbox.steps import Due, Step, next_line, tell_next
@@ -57,7 +60,14 @@ MAX_NAMED = 200
 LIKE_LABEL = re.compile(r"(?<!\w)[^\W\d_]\W*$")
 
 
-def check(election: Election, arguments: Options) -> None:
+class Arguments(Options):
+    preview: str | None = option(
+        "FOLDER",
+        "Make this folder, with page and letters as the call would make them, and in a secret vote a slip",
+    )
+
+
+def check(election: Election, arguments: Arguments) -> None:
     """Check the poll: list everything that is wrong with it, or show what is voted on."""
     history = election.history()
     if history.call is not None:
@@ -76,6 +86,8 @@ def check(election: Election, arguments: Options) -> None:
         tell(f"The poll is in order: {len(questions[''].names)} options, {electors}.")
     tell_checked(draft)
     tell(*notes_on(election, draft))
+    if arguments.preview is not None:
+        preview(election, draft, pathlib.Path(arguments.preview))
     for label, poll in questions.items():
         tell(f"{label and f'{label}: '}{quorum_words(poll.quorum, draft.quorums[label])}")
     if not history.has_codes_on_roll:
@@ -168,6 +180,37 @@ def faults_by_debvote(election: Election, file: pathlib.Path, poll_bytes: bytes)
     for line in answer.text.splitlines():
         if line.startswith("poll: "):
             yield bad_poll(file, line.removeprefix("poll: "), BY_EDITOR)
+
+
+# ---- what a call would send
+def preview(election: Election, draft: Checked, folder: pathlib.Path) -> None:
+    """Makes what the call would send of a draft, without own marks, links and end; the letter is
+    that to the first elector.
+    """
+    # what makes pages takes a while to be imported
+    from debvote_tools.call.call import call_files, current_call
+    from debvote_tools.call.secret import aliased, slips
+    from debvote_tools.outbox.words import Composer
+
+    demand_new(election, folder, "folder")
+    electors = queries.electors(election.book)
+    has_aliases = (
+        draft.questions.is_secret
+        and not draft.lacks_codes
+        and not election.history().has_codes_on_roll
+    )
+    public = aliased(draft.questions, electors) if has_aliases else draft.questions
+    sealed = Sealed(public, draft.questions)
+    call = current_call(election, said={"quorum_votes": draft.quorums}, sealed=sealed)
+    call = dataclasses.replace(call, letter_text=draft.letter_text)
+    files = call_files(call)
+    for elector in () if call.has_codes_on_roll else electors[:1]:
+        text = Composer(call, is_over=False).call_letter(elector, is_extension=False).text
+        files["letter.txt"] = text.encode()
+    if draft.questions.is_secret and not draft.lacks_codes:
+        files["slip.html"] = slips(call, electors[:1])
+    write_made(folder, files, OWN)
+    tell(f"Made the folder {folder}, to be looked at: it is no call.")
 
 
 # ---- what letters quote

@@ -12,7 +12,16 @@ from debvote_tools.book.book import Detail, DoneAct
 from debvote_tools.book.change import carried_out
 from debvote_tools.book.queries import Elector, NewEnvelope
 from debvote_tools.cli.arguments import flag, option
-from debvote_tools.cli.console import asked_for, shown_line, shown_text, tell, typed
+from debvote_tools.cli.console import (
+    LINE_ENDS,
+    asked_for,
+    is_typed,
+    odd_sign,
+    shown_line,
+    shown_text,
+    tell,
+    typed,
+)
 from debvote_tools.cli.faults import Fault, Status, bad_words
 from debvote_tools.debvote import TABLE
 from debvote_tools.election import Election, History
@@ -41,6 +50,8 @@ MOST_ABOVE = 100
 READ = 65_536
 # a name as people type it, and ranks
 TYPED = re.compile(r"(.+?)\s+([\d-].*)")
+# in characters: the longest name of a desk
+LONGEST_NAME = 40
 # how many names are listed to choose from
 MAX_NAMES = 9
 
@@ -48,6 +59,10 @@ MAX_NAMES = 9
 class Arguments(entering.Arguments):
     nothing = "entered"
 
+    name: str | None = option(
+        "TEXT",
+        "The name of this desk, as `Table 2`: log, show and receipts tell where a ballot was",
+    )
     question: str | None = option(
         "LABEL", "Of several questions the one that is answered: type the ballot without its label"
     )
@@ -61,6 +76,7 @@ class Desk:
     """A desk, and the replies to what was cast there."""
 
     vote: Vote
+    name: str | None
     # what --came-before-close says, and what was said of the ballots of this desk
     answer: str | None
     is_forced: bool
@@ -101,7 +117,7 @@ class Desk:
         return self.names.words if self.vote.label else self.vote.names.words
 
     def next_typed(self) -> bytes | None:
-        answer = self.typed or typed("Ballot: ")
+        answer = self.typed or typed("Ballot: ", "ballot")
         self.typed = None
         return answer
 
@@ -172,7 +188,7 @@ class Casting(entering.Entry):
     def ask(self) -> bool | None:
         if all(line.is_ballot for line in self.lines):
             return super().ask()
-        answer = typed(self.question)
+        answer = typed(self.question, "refused")
         if answer is None:
             return None
         is_agreed = answer.strip().lower() == ENTER
@@ -217,7 +233,7 @@ def what_is_cast(desk: Desk, lines: list[CheckedLine], elector: int | None, asks
         shown = [
             f"{words}; it was not entered (--force enters it)." for words in replacing.values()
         ]
-    detail: Detail = {"lines": len(lines)}
+    detail: Detail = {"lines": len(lines)} | ({"desk": desk.name} if desk.name else {})
     if history.is_reopened:
         detail["came_before_close"] = desk.came_before_close
     return Casting(
@@ -255,7 +271,8 @@ def desk(election: Election, arguments: Arguments) -> None:
             f"the labels are {', '.join(vote.names.labels) or 'none: this vote has one question'}",
             "give one of them",
         )
-    desk = Desk(vote, arguments.came_before_close, arguments.force)
+    name = None if arguments.name is None else name_of_desk(arguments.name)
+    desk = Desk(vote, name, arguments.came_before_close, arguments.force)
     history = election.history()
     desk.notes = entering.late_notes(election, history, "what is entered")
     tell(*desk.notes)
@@ -265,12 +282,22 @@ def desk(election: Election, arguments: Arguments) -> None:
         )
     try:
         desk.ask_if_reopened(history)
-        cast = at_terminal if sys.stdin.isatty() else from_pipe
+        cast = at_terminal if is_typed() else from_pipe
         cast(desk)
     except KeyboardInterrupt:
         tell("")
     tell(f"This desk has entered {summary(desk.replies)}.")
     tell_next(election)
+
+
+def name_of_desk(text: str) -> str:
+    """The name of a desk, as it is told. No answer that quotes it reads as ranks."""
+    name = " ".join(text.split())
+    odd = odd_sign(name, refused=f"{LINE_ENDS},")
+    if not 0 < len(name) <= LONGEST_NAME or odd is not None:
+        reason = f"it has 1 to {LONGEST_NAME} plain characters, and no comma"
+        raise bad_words("--name", reason, "write another name")
+    return name
 
 
 # ---- from a pipe
@@ -409,7 +436,7 @@ def chosen_of(electors: Sequence[Elector], name: str) -> Elector | None:
     tell(f"`{name}` is part of {len(electors)} names:")
     for place, elector in enumerate(electors[:MAX_NAMES], start=1):
         tell(f"  {place} {elector.name} ({shown_text(elector.who)})")
-    answer = (typed("Type the number of one, or n for none: ") or b"").strip()
+    answer = (typed("Type the number of one, or n for none: ", "choice") or b"").strip()
     number = int(answer) if answer.isdigit() else 0
     return electors[number - 1] if 0 < number <= len(electors[:MAX_NAMES]) else None
 

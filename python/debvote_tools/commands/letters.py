@@ -2,7 +2,6 @@
 
 import contextlib
 import dataclasses
-import getpass
 import pathlib
 from collections.abc import Iterator, Mapping, Sequence
 
@@ -22,6 +21,7 @@ from debvote_tools.cli.console import (
     shows,
     tell,
     tell_as_it_is,
+    typed_unseen,
 )
 from debvote_tools.cli.faults import Fault, Status, bad_words, kept_in, stop_at
 from debvote_tools.election import LETTERS, Election, History
@@ -375,7 +375,7 @@ def password_of(user: str, server: Server, file: str | None) -> str:
             f"the password of {shown_text(user)} can't be asked here",
             "give --password-file FILE, or run the command at a terminal",
         )
-    return getpass.getpass(f"The password of {shown_text(user)} on {server.host}: ")
+    return typed_unseen(f"The password of {shown_text(user)} on {server.host}: ")
 
 
 # ---- the acts

@@ -15,7 +15,7 @@ from debvote_tools.election import Election
 SEAL = re.compile(r', "seal": "\w*"')
 
 # what the table says of an act, by the keys of its detail
-SHOWN = "kind box files lines letters electors codes envelope act until to at early because".split()
+SHOWN = "desk kind box files lines letters electors codes envelope act until to at early because".split()
 
 
 class Arguments(Options):

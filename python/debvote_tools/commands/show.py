@@ -103,7 +103,8 @@ def fate_words(vote: Vote, history: History, fate: Fate, came: Sequence[Envelope
             struck = f"struck by {act.name} at {act_time(act.time)}"
             marks.append(f"{struck}: {because}" if because else struck)
         marked = f" ({'; '.join(marks)})" if marks else ""
-        words = f"envelope {envelope.number}, {act_time(envelope.time)}{letter_words.sent_words(fate.came_by)}{marked}"
+        at_desk = f", at {shown_text(fate.desk)}" if fate.desk else ""
+        words = f"envelope {envelope.number}, {act_time(envelope.time)}{at_desk}{letter_words.sent_words(fate.came_by)}{marked}"
         if fate.answers:
             yield vote.with_answers(words, fate.answers, "    ")
         else:

@@ -34,8 +34,9 @@ class Fate(NamedTuple):
     letter: LetterCase | None = None
     is_own: bool = False
     names_them: bool = False
-    # the letter from which an envelope came
+    # the letter from which an envelope came, and the name of the desk at which it was typed
     came_by: LetterCase | None = None
+    desk: str = ""
 
     @property
     def why_refused(self) -> str | None:
@@ -83,6 +84,7 @@ def fates_of(
                 envelope.became,
                 envelope,
                 came_by=letters.get(envelope.letter or 0),
+                desk=history.act(envelope.act).detail.get("desk", ""),
             ),
         )
         for envelope in vote.with_reasons_of_now(

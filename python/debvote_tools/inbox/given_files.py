@@ -9,7 +9,7 @@ import sys
 from collections.abc import Sequence
 from typing import BinaryIO, NamedTuple
 
-from debvote_tools.cli.console import tell
+from debvote_tools.cli.console import has_input, tell
 from debvote_tools.cli.faults import Fault, Status, bad_words, kept_in, stop_at
 from debvote_tools.election import Election
 from debvote_tools.files import BALLOTS_LIMIT, PACKED, PDF, kind_of
@@ -96,7 +96,7 @@ def read_folder(path: str) -> list[RawLetter]:
 def read_file(election: Election, path: str) -> GivenFile:
     """Reads a file or standard input, once: it may be a pipe. At a terminal it says how to end."""
     if path == HYPHEN:
-        if sys.stdin is None:
+        if not has_input():
             raise bad_ballots(STANDARD_INPUT, "it is closed", "name a file")
         if sys.stdin.isatty():
             tell("Type the ballots, one on each line; to end, type Ctrl-D on an empty line.")

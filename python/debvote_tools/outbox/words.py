@@ -247,6 +247,9 @@ class Composer:
         if fate.replaced:
             titles = map(self.call_data.questions.titled, fate.replaced)
             yield self.language.say(NOT_ALL, questions=self.language.joined(titles))
+        if fate.desk:
+            desk = self.language.formed("quoted", fate.desk)
+            yield self.language.say("It was entered at a desk {desk}.", desk=desk)
         letter = fate.came_by
         if letter is not None and fate.envelope is not None:
             if letter.read.link:

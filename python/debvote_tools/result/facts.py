@@ -119,6 +119,8 @@ class VoteFacts(NamedTuple):
     # closed, the labels of the questions that it answers
     acts: Sequence[Act] = ()
     labels_after_end: Sequence[Collection[str]] = ()
+    # how many lines were entered at each desk, in the order of their first use, if one has a name
+    desk_lines: Sequence[int] = ()
     # the letter of the last close, unless the vote was opened again: it has the checksum of other
     # ballots
     closed: bytes | None = None

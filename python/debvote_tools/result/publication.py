@@ -4,10 +4,11 @@ What the book has of the questions `close`, `count` and `publish` read in one wa
 with what debvote says of each line (`kept_of`).
 """
 
+import collections
 import datetime
 import itertools
 import urllib.parse
-from collections.abc import Collection, Iterable, Iterator, Mapping
+from collections.abc import Collection, Iterable, Iterator, Mapping, Sequence
 from typing import Any, NamedTuple
 
 from debvote_tools.book import queries
@@ -205,6 +206,7 @@ def vote_facts(
         days=[act.time.astimezone(history.zone).date() for act in days],
         acts=acts_of(book, history, again, is_secret=is_secret),
         labels_after_end=labels_after_end(book, history),
+        desk_lines=desk_lines(book, history, again),
         closed=closing_letter(election, history) if history.is_closed else None,
         real_names=call.real_names or {},
         doubts=[*doubts_of(election, history, words.castings, pending)],
@@ -229,6 +231,19 @@ def facts_of_tellers(election: Election, history: History) -> dict[str, Any]:
         "programs": program_files(),
         "refused_by": dict(zip(tellers, refused)),
     }
+
+
+def desk_lines(book: Book, history: History, again: DoneAct | None) -> Sequence[int]:
+    """How many lines were entered at each desk, also of those that were struck since; nothing if no
+    desk has a name.
+    """
+    acts = [act for act in history.since_call("desk") if again is None or act.number < again.number]
+    undone = queries.undone_acts(book)
+    by_name = collections.Counter[str]()
+    for act in acts:
+        if act.number not in undone:
+            by_name[act.detail.get("desk", "")] += act.detail["lines"]
+    return [*by_name.values()] if any(by_name) else ()
 
 
 def question_facts(election: Election, vote: VoteFacts) -> list[QuestionFacts]:

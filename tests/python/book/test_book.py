@@ -952,7 +952,7 @@ class Places(BookTest):
         self.assert_fault(
             self.election("status"),
             2,
-            "it is a book (version 2), and this program writes version 6",
+            "it is a book (version 2), and this program writes version 7",
         )
         # a book of 2.0.0 is refused by name, and not opened: what a command that was cut off left stays, too
         with contextlib.closing(sqlite3.connect(self.book)) as connection:

@@ -401,3 +401,22 @@ class FromAPipe(CalledTest):
         desk.communicate()
         entered = [line for line in self.lines() if line.startswith("ben ")]
         self.assertEqual((adding.returncode, entered), (0, lines))
+
+
+class Named(CalledTest):
+    def test_log_show_receipt_and_result_tell_where_a_ballot_was_typed(self):
+        self.done("desk", "--name", " Table  2 ", given="ada 1,2,3,4\nben 2,1,3,4\n")
+        self.done("desk", "--name", "Gallery", given="cleo 1,2,3,4\n")
+        self.assertIn("desk, desk Table 2, lines 2", self.done("log").output)
+        self.assertIn(", at Table 2: At the lake", self.done("show", "ada").output)
+        self.done("letters", "receipts")
+        texts = [file.read_text() for file in self.folder.glob("letters/receipts/*/*.eml")]
+        found = [re.findall(r"at a desk \((.*)\)", text) for text in texts]
+        self.assertEqual(sorted(found), [["Gallery"], ["Table 2"], ["Table 2"]])
+        self.done("close", "--yes")
+        self.assertEqual(self.election("publish").status, 0)
+        page = self.read("result/index.html").decode()
+        self.assertIn("at desks: desk 1: 2 lines, desk 2: 1 line.", page)
+        self.assertNotIn("Gallery", page)
+        for name in ("", "ada 1,2", "x" * 41, "a\u202eb"):
+            self.assert_fault(self.election("desk", "--name", name, given=""), 2, "--name: it has")

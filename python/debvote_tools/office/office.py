@@ -1,0 +1,115 @@
+"""What all requests of an office share: its election, the commands that run, and its secrets."""
+
+import contextlib
+import os
+import pathlib
+import secrets
+import shutil
+import tempfile
+import threading
+import time
+from collections.abc import Callable
+from typing import IO
+
+from debvote_tools.election import Election
+from debvote_tools.office import state
+from debvote_tools.office.runs import Runs
+
+HOST = "127.0.0.1"
+
+# what a secret opens: all; what stands on a wall; the folder that was published last
+ALL = "all"
+BIG = "big"
+RESULT = "result"
+
+# a browser gets the name of this file: others see the words of programs, and no content of files
+LEADS = '<!DOCTYPE html><meta charset="utf-8"><meta http-equiv="refresh" content="0; url={}">\n'
+
+# where a command runs for a person who sees it; and in UTF-8 whatever the locale is
+ENVIRONMENT = {"DEBVOTE_OFFICE": "1", "PYTHONIOENCODING": "utf-8"}
+
+# in seconds: after so long without a request it ends, and how long it waits then for commands
+IDLE = 12 * 60 * 60
+ENDING = 5
+
+
+class Office:
+    def __init__(self, programs: pathlib.Path, code: str | None) -> None:
+        self.programs = programs
+        # the language of the page: that which was asked for, or that of the election
+        self.code = code or "en"
+        self.is_code_given = code is not None
+        self.port = 0
+        self.rooms = {room: secrets.token_urlsafe(32) for room in (ALL, BIG, RESULT)}
+        # what was uploaded, and the file that leads to the page, for this account alone
+        self.own = pathlib.Path(tempfile.mkdtemp(prefix="debvote-office-"))
+        self.folder: pathlib.Path | None = None
+        # why the folder that was named has no election
+        self.fault = ""
+        self.held: IO[str] | None = None
+        self.runs = Runs(programs / "debvote-election", pathlib.Path.home(), ENVIRONMENT)
+        self.lock = threading.Lock()
+        # one page at a time reads the book: to close a file of a database that is open elsewhere in
+        # a process drops the locks that SQLite has on it
+        self.reading = threading.Lock()
+        self.last_request = time.monotonic()
+        # ends the server
+        self.stop: Callable[[], None] = lambda: None
+
+    @property
+    def host(self) -> str:
+        return f"{HOST}:{self.port}"
+
+    def address(self, room: str = ALL) -> str:
+        return f"http://{self.host}/{self.rooms[room]}/"
+
+    @property
+    def page(self) -> pathlib.Path:
+        return self.own / "open.html"
+
+    def write_page(self) -> None:
+        handle = os.open(self.page, os.O_WRONLY | os.O_CREAT | os.O_EXCL, 0o600)
+        with open(handle, "w", encoding="utf-8") as file:
+            file.write(LEADS.format(self.address()))
+
+    # ---- the election
+    def open(self, folder: pathlib.Path) -> None:
+        """Opens the election of a folder. Raises `Taken` if another office has it, and a fault if
+        it has none.
+        """
+        folder = folder.resolve()
+        with self.lock:
+            if self.folder is not None:
+                return
+            with self.reading:
+                election = self.election_in(folder)
+                with contextlib.closing(election.opened.connection):
+                    self.held = state.lock_of(folder)
+                    if not self.is_code_given:
+                        self.code = election.language.code
+            self.folder = folder
+            self.runs.folder = folder
+        state.remember_folder(folder)
+        self.say_page()
+
+    def say_page(self) -> None:
+        if self.held and self.port:
+            state.say_page(self.held, self.page)
+
+    def election_in(self, folder: pathlib.Path) -> Election:
+        """An election, whose doubts the page shows, and nothing says on standard error."""
+        election = Election(folder, self.programs)
+        election.book = election.opened
+        return election
+
+    # ---- its end
+    @property
+    def is_idle(self) -> bool:
+        return time.monotonic() - self.last_request > IDLE
+
+    def close(self) -> None:
+        """Interrupts what runs, and removes what was uploaded."""
+        self.runs.end(ENDING)
+        shutil.rmtree(self.own, ignore_errors=True)
+        if self.held:
+            self.held.close()

@@ -1,0 +1,129 @@
+"""What the office remembers on this computer, and that there is one office for a book."""
+
+import contextlib
+import fcntl
+import json
+import os
+import pathlib
+import time
+from collections.abc import Iterator
+from typing import IO, Any
+
+from debvote_tools.book.machine_note import MACHINE_ID, state_folder
+from debvote_tools.cli.faults import Fault, Status
+from debvote_tools.files import locked, sha256_of, write_whole
+
+# of the folders that were open the last ones are named
+MOST_FOLDERS = 20
+# in seconds: how long an office takes at most to say where its page is
+PATIENCE = 3
+
+# by names: `folders`, that were open, the last one first; `desks`, the names of desks by folder and
+# number; `agreed`, the digests of files whose programs may run
+State = dict[str, Any]
+
+
+def kept() -> State:
+    """What is remembered; nothing if that can't be read."""
+    try:
+        state = json.loads((state_folder() / "office.json").read_text("utf-8"))
+    except (OSError, ValueError):
+        return {}
+    return state if isinstance(state, dict) else {}
+
+
+@contextlib.contextmanager
+def changed() -> Iterator[State]:
+    """What is remembered, to be changed: it is kept at the end."""
+    folder = state_folder()
+    try:
+        folder.mkdir(mode=0o700, parents=True, exist_ok=True)
+        with locked(folder / "lock"):
+            state = kept()
+            yield state
+            data = json.dumps(state, ensure_ascii=False, indent=1).encode()
+            write_whole(folder / "office.json", data, 0o600)
+    except OSError as error:
+        reason = f"the office can't note there what it has to remember ({error.strerror})"
+        cure = "make the folder writable for you, or set XDG_STATE_HOME"
+        raise Fault(folder, reason, cure, Status.BAD_OUTPUT) from None
+
+
+def folders() -> list[str]:
+    """The folders that were open and are still there, the last one first."""
+    return [folder for folder in kept().get("folders", []) if os.path.isdir(folder)]
+
+
+def remember_folder(folder: pathlib.Path) -> None:
+    with changed() as state:
+        others = [other for other in state.get("folders", []) if other != str(folder)]
+        state["folders"] = [str(folder), *others][:MOST_FOLDERS]
+
+
+def desk_name(folder: pathlib.Path, number: int) -> str:
+    """The name of a desk, as somebody has changed it."""
+    names = kept().get("desks", {}).get(str(folder), {})
+    return str(names.get(str(number), f"Desk {number}"))
+
+
+def name_desk(folder: pathlib.Path, number: int, name: str) -> None:
+    with changed() as state:
+        state.setdefault("desks", {}).setdefault(str(folder), {})[str(number)] = name
+
+
+def digest_here(folder: pathlib.Path, data: bytes) -> str:
+    """A digest of a file of a folder, by its place and this machine: no copy elsewhere has it."""
+    with contextlib.suppress(OSError):
+        data += b"\n" + MACHINE_ID.read_bytes()
+    return sha256_of(f"{folder}\n".encode() + data)
+
+
+def is_agreed(digest: str) -> bool:
+    return digest in kept().get("agreed", [])
+
+
+def agree(digest: str) -> None:
+    with changed() as state:
+        state["agreed"] = [*state.get("agreed", []), digest]
+
+
+# ---- one office for a folder
+class Taken(Exception):
+    """Another office has the folder; `page` is the file that opens its page, if it is known."""
+
+    def __init__(self, page: str) -> None:
+        super().__init__(page)
+        self.page = page
+
+
+def lock_of(folder: pathlib.Path) -> IO[str]:
+    """Locks a folder for this office, as long as the file is open. Raises `Taken`."""
+    place = state_folder()
+    place.mkdir(mode=0o700, parents=True, exist_ok=True)
+    handle = os.open(
+        place / f"office-{sha256_of(os.fsencode(folder))[:40]}",
+        os.O_RDWR | os.O_CREAT | os.O_CLOEXEC,
+        0o600,
+    )
+    file = open(handle, "r+", encoding="utf-8")
+    until = time.monotonic() + PATIENCE
+    while True:
+        try:
+            fcntl.flock(file, fcntl.LOCK_EX | fcntl.LOCK_NB)
+            file.truncate(0)
+            return file
+        except BlockingIOError:
+            file.seek(0)
+            page = file.read()
+        # another one that has it may be about to say where its page is
+        if page or time.monotonic() > until:
+            file.close()
+            raise Taken(page)
+        time.sleep(0.05)
+
+
+def say_page(lock: IO[str], page: pathlib.Path) -> None:
+    """Says in the lock which file opens the page."""
+    lock.seek(0)
+    lock.write(str(page))
+    lock.flush()

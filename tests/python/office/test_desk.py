@@ -1,0 +1,190 @@
+"""Ballots at the desks of the office, and whose question an answer is to."""
+
+import os
+import re
+import signal
+import threading
+import time
+
+from tests.support import elections, offices
+from tests.support.called import CalledTest
+from tests.support.elections import ElectionTest
+from tests.support.questions import FEE, QuestionsTest
+
+LOST = "it was not taken"
+
+
+class AtDesk(CalledTest):
+    def test_a_ballot_is_read_back_and_entered(self):
+        office = offices.Office(self)
+        text = office.type("ada", "1,2,3,4")
+        shown = offices.seen(text)
+        self.assertIn("Read it back ada Ada 1 At the lake 2 In the town hall", shown)
+        self.assertIn("Enter it?", shown)
+        text = office.yes(text)
+        self.assertIn("1 ballot here", offices.seen(text))
+        self.assertIn("counted", offices.seen(text))
+        self.assert_lines("ada 1,2,3,4")
+        self.assertEqual(self.last("desk"), {"lines": 1, "desk": "Desk 1"})
+        # what the desk completes is drawn by its words
+        shown = offices.seen(office.type("Cle", "2,1,-,3"))
+        self.assertIn("cleo Cleo 1 In the town hall 2 At the lake 3 Further discussion –", shown)
+        self.assertIn("`cle` was completed to `cleo`", shown)
+        text = office.yes(office.page("desk/1"), "n")
+        self.assertIn("It was not entered.", text)
+        self.assert_lines("ada 1,2,3,4")
+        # one of several is chosen by its number
+        shown = offices.seen(text := office.type("d", "1,2,3,4"))
+        self.assertIn("is part of", shown)
+        text = office.yes(text, "1")
+        self.assertIn("Read it back", text)
+        office.yes(text)
+        self.assertEqual(len(self.lines()), 2)
+
+    def test_what_would_not_count_needs_another_button(self):
+        office = offices.Office(self, "--language", "de")
+        for name, ranks in (("ada", "1,2"), ("nobody", "1,2,3,4")):
+            text = office.type(name, ranks)
+            self.assertIn('class="outcome asking doubtful"', text)
+            self.assertIn("Was zurückgewiesen wird, zählt nicht.", text)
+            [first] = re.findall(r'<button class="first" name="answer" value="(.*?)"', text)
+            self.assertIn('name="asked"', text)
+            text = office.yes(text, first)
+            self.assertNotIn("doubtful", text)
+            self.assert_lines()
+            # a yes by habit enters nothing
+            office.yes(office.type(name, ranks), "y")
+            self.assert_lines()
+            office.yes(office.page("desk/1"), "")
+        office.yes(office.type("ada", "1,2"), "enter")
+        self.assert_lines("ada 1,2")
+
+    def test_an_answer_to_an_older_question_enters_nothing(self):
+        office = offices.Office(self)
+        first = office.type("ada", "1,2,3,4")
+        old = {"asked": office.asked(first), "answer": "y"}
+        office.yes(first, "n")
+        form = office.asked(office.page("desk/1"))
+        second = office.type("ben", "2,1,3,4")
+        self.assertIn(LOST, office.post("desk/1", **old))
+        # a form that was drawn before types no second ballot
+        self.assertIn(LOST, office.post("desk/1", name="cleo", ranks="1,2,3,4", asked=form))
+        self.assert_lines()
+        office.yes(second)
+        self.assertIn(LOST, office.post("desk/1", asked=office.asked(second), answer="y"))
+        self.assert_lines("ben 2,1,3,4")
+        # an answer to a desk whose process ended, and began anew
+        text = office.type("dan", "1,2,3,4")
+        old = {"asked": office.asked(text), "answer": "y"}
+        [child] = offices.children(office)
+        os.kill(child, signal.SIGKILL)
+        while offices.is_there(child):
+            time.sleep(0.01)
+        self.assertIn(LOST, office.post("desk/1", **old))
+        office.type("eve", "4,3,2,1")
+        self.assertIn(LOST, office.post("desk/1", **old))
+        self.assert_lines("ben 2,1,3,4")
+        office.yes(office.page("desk/1"))
+        self.assert_lines("ben 2,1,3,4", "eve 4,3,2,1")
+
+    def test_what_another_desk_enters_meanwhile_is_asked_anew(self):
+        office = offices.Office(self)
+        first = office.type("ada", "1,2,3,4", desk=1)
+        office.yes(office.type("ada", "4,3,2,1", desk=2))
+        text = office.yes(first)
+        shown = offices.seen(text)
+        self.assertIn("another command changed the election meanwhile", shown)
+        self.assertIn("ada has a ballot, which will be replaced", shown)
+        self.assert_lines("ada 4,3,2,1")
+        office.yes(text)
+        self.assert_lines("ada 4,3,2,1", "ada 1,2,3,4")
+
+    def test_desks_have_names_that_stay(self):
+        office = offices.Office(self)
+        office.post("desk/3", begin="1", name="Table 3 <b>")
+        office.yes(office.type("ada", "1,2,3,4", desk=3))
+        self.assertEqual(self.last("desk")["desk"], "Table 3 <b>")
+        text = office.yes(office.page("desk/3"), "q")
+        self.assertIn("This desk has entered 1 line", offices.seen(text))
+        office.end()
+        self.assertIn("Table 3 &lt;b&gt;", offices.Office(self).page("desk/3"))
+
+    def test_eight_desks_at_once(self):
+        office = offices.Office(self)
+        faults = list[BaseException]()
+
+        def at_desk(number):
+            try:
+                for place in range(12):
+                    ranks = f"{number},{place + 1},50,50"
+                    text = office.type(self.names[(number + place) % 3], ranks, desk=number)
+                    while "Enter it?" in text:
+                        shown = offices.seen(text)
+                        self.assertIn(f" {number} At the lake", shown)
+                        self.assertIn(f" {place + 1} In the town hall", shown)
+                        text = office.yes(text)
+            except BaseException as fault:
+                faults.append(fault)
+
+        threads = [threading.Thread(target=at_desk, args=(number,)) for number in range(1, 9)]
+        for thread in threads:
+            thread.start()
+        for thread in threads:
+            thread.join()
+        self.assertEqual(faults, [])
+        wanted = sorted(
+            f"{self.names[(number + place) % 3]} {number},{place + 1},50,50"
+            for number in range(1, 9)
+            for place in range(12)
+        )
+        self.assertEqual(sorted(self.lines()), wanted)
+
+
+class Reopened(ElectionTest):
+    def test_a_desk_asks_before_the_first_ballot(self):
+        self.done("desk", given="ada 1,2,3,4\n")
+        self.done("close", "--yes")
+        self.done("reopen", "--because", "one is missing")
+        office = offices.Office(self)
+        text = office.post("desk/1", begin="1")
+        self.assertIn("Did this come before that close?", offices.seen(text))
+        self.assertNotIn('id="Name"', text)
+        text = office.yes(text)
+        office.yes(office.type("ben", "1,2,3,4"))
+        query = "SELECT line, late FROM envelope"
+        self.assertEqual(self.rows(query), [(b"ada 1,2,3,4", 0), (b"ben 1,2,3,4", 0)])
+
+
+class Several(QuestionsTest):
+    polls = {**QuestionsTest.polls, "A": FEE + "motion = true\n"}
+
+    def test_several_questions_and_a_motion(self):
+        office = offices.Office(self)
+        text = office.type("ada", "", ranksA="1,2", **{"B-1": "1", "B-2": "2", "B-3": "-"})
+        shown = offices.seen(text)
+        self.assertIn("Yes Raise the fee", shown)
+        self.assertIn("1 Ada Lovelace 2 Mary Somerville – None of these", shown)
+        office.yes(text)
+        self.assert_lines("ada A 1,2 B 1,2,-")
+        self.assertIn("B The chair of the board 1 answered", offices.seen(office.page()))
+
+
+class Secret(ElectionTest):
+    poll = elections.POLL + "secret = true\n"
+
+    def test_what_a_ballot_replaces_is_not_shown(self):
+        office = offices.Office(self)
+        office.yes(office.type("ada", "1,2,3,4"))
+        self.assertNotIn("town hall, then", office.page("desk/1"))
+        text = office.type("ada", "4,3,2,1")
+        shown = offices.seen(text)
+        self.assertIn("ada Ada 1 Further discussion 2", shown)
+        self.assertIn("ada has a ballot, which will be replaced", shown)
+        self.assertEqual(shown.count("At the lake"), 1)
+        office.yes(text)
+        shown = office.post("do/show", name="ada")
+        self.assertIn("Show what ada voted?", offices.seen(shown))
+        place = office.place
+        shown = offices.seen(office.yes(shown))
+        self.assertIn("Further discussion, then", shown)
+        self.assertNotIn("Further discussion, then", office.page(place.partition("?")[0]))

@@ -1,0 +1,143 @@
+"""Letters on the pages of the office."""
+
+import re
+
+from tests.support import offices
+from tests.support.called import LettersTest
+from tests.support.elections import POLL
+from tests.support.letters import ballot, letter, mailbox
+
+MARKUP = "<script>alert(1)</script><form action=x><b>&amp;"
+
+
+class Letters(LettersTest):
+    def upload(self, office, *letters):
+        """The page of the letters, once those that wait have come and nothing was entered."""
+        data = self.of_this_vote(mailbox(*letters))
+        text = office.upload("letters", "mail.mbox", data)
+        return office.yes(text, "n") if 'name="asked"' in text else text
+
+    def test_a_mailbox_is_asked_about_where_it_is_shown(self):
+        office = offices.Office(self)
+        data = self.of_this_vote(mailbox(ballot("ada", "1,2,3,4"), letter("ben", "I vote for it")))
+        text = office.upload("letters", "../-mail<b>.mbox", data)
+        self.assertTrue(office.place.startswith("letters?run="), office.place)
+        shown = offices.seen(text)
+        self.assertIn("Enter 1 ballot?", shown)
+        self.assertIn("1 ada@club.example", shown)
+        self.assertIn("1 letter waits", shown)
+        self.assert_lines()
+        # it is asked here until it is answered
+        self.assertIn("waits for your answer", offices.seen(office.page()))
+        text = office.yes(text)
+        self.assertIn("counted", offices.seen(text))
+        self.assert_lines("ada 1,2,3,4")
+        text = office.upload("letters", "mail.mbox", data)
+        self.assertIn("0 new letters; 2 came before.", offices.seen(text))
+        self.assertEqual(office.post("letters", file=""), office.page("letters"))
+        self.assertIn(
+            "--yes: No such file or directory", offices.seen(office.post("letters", file="--yes"))
+        )
+
+    def test_a_letter_is_entered_by_its_own_question(self):
+        office = offices.Office(self)
+        self.upload(
+            office,
+            letter("ada", "Dear all,\n\nada 2,1,3,4\n\nbut the hall is too cold for me\nAda"),
+        )
+        text = office.page("letters/1")
+        shown = offices.seen(text)
+        self.assertIn("ada : In the town hall, then At the lake", shown)
+        self.assertIn("the hall is too cold for me", shown)
+        text = office.post("letters/1", act="enter")
+        self.assertTrue(office.place.startswith("letters/1?run="), office.place)
+        self.assertIn("There is more in it than a ballot. Enter 1 ballot?", offices.seen(text))
+        self.assert_lines()
+        office.yes(text, "n")
+        self.assert_lines()
+        office.yes(office.post("letters/1", act="enter"))
+        self.assert_lines("ada 2,1,3,4")
+        self.assertNotIn('value="enter"', office.page("letters/1"))
+
+    def test_it_is_entered_otherwise_or_set_aside(self):
+        office = offices.Office(self)
+        self.upload(office, letter("ada", "the lake, then the hall"), letter("ben", "hello"))
+        text = office.post("letters/1", act="as", name="ada", **{"-1": "1", "-2": "2"})
+        self.assertIn("ada: At the lake, then In the town hall", offices.seen(text))
+        office.yes(text)
+        self.assert_lines("ada 1,2,-,-")
+        text = office.post("letters/1", act="as", name="ada", ranks="1,2")
+        self.assertIn("is no ballot of this poll", offices.seen(text))
+        text = office.post("letters/2", act="aside")
+        self.assertIn("No letter waits", text)
+        self.assertEqual(self.last("set aside"), {"letters": [2]})
+        self.assertEqual(office.ask("GET", office.base + "letters/3")[0], 404)
+
+    def test_what_needs_force_names_what_for(self):
+        office = offices.Office(self)
+        self.upload(office, ballot("ada", "2,1,3,4", sender="x@else.example"))
+        text = office.page("letters/1")
+        self.assertIn("Ask its elector first", text)
+        self.assertIn('value="not-tied"', text)
+        self.assertNotIn('value="voted-since"', text)
+        text = office.post("letters/1", act="enter")
+        self.assertIn("do not show that it is of ada", offices.seen(text))
+        # she votes after the page was drawn: what it was forced for was another thing
+        self.set_clock("2026-11-25T09:10:00+00:00")
+        self.done("desk", given="ada 1,2,3,4\n")
+        text = office.post("letters/1", act="enter", force="not-tied")
+        self.assertIn("its elector has voted since", offices.seen(text))
+        self.assert_lines("ada 1,2,3,4")
+        self.assertIn('value="voted-since"', office.page("letters/1"))
+        text = office.post("letters/1", act="enter", force=["not-tied", "voted-since", "x"])
+        self.assertIn("Enter 1 ballot?", offices.seen(text))
+        self.assert_lines("ada 1,2,3,4")
+        office.yes(text)
+        self.assert_lines("ada 1,2,3,4", "ada 2,1,3,4")
+
+    def test_what_people_write_is_text(self):
+        office = offices.Office(self)
+        data = letter(
+            "ada",
+            f"{MARKUP}\nada 1,2,3,4\x05yes\x1fEnter it?\x06\n{MARKUP}",
+            head=f'Content-Disposition: attachment; filename="{MARKUP}"\n',
+            subject=f"Re: {MARKUP}",
+        )
+        text = self.upload(office, data, letter("ben", MARKUP, sender=f'"{MARKUP}" <x@b.example>'))
+        pages = [text, *map(office.page, ("letters", "letters/1", "letters/2", "", "run/1"))]
+        pages.append(office.post("letters/1", act="enter"))
+        for page in pages:
+            self.assertNotIn("<script>alert", page)
+            self.assertNotIn("<form action=x", page)
+            self.assertEqual(len(re.findall("<script", page)), 1)
+        self.assert_lines()
+
+    def test_a_hundred_letters_are_on_a_page(self):
+        office = offices.Office(self)
+        rows = [letter("ada", f"hello {number}", number=number) for number in range(1, 131)]
+        text = self.upload(office, *rows)
+        self.assertIn("130 letters wait", text)
+        self.assertIn("Page 1 of 2", text)
+        self.assertNotIn("Look at letter 101", text)
+        self.assertIn("Look at letter 101", office.page("letters?page=2"))
+        self.assertIn("Page 2 of 2", office.page("letters?page=77"))
+
+
+class Secret(LettersTest):
+    poll = POLL + "secret = true\n"
+
+    def test_words_are_on_the_page_of_the_letter_while_it_is_decided(self):
+        office = offices.Office(self)
+        data = mailbox(
+            ballot("ada", "1,2,3,4"), letter("ben", "Hello\n\nben 2,1,3,4\nor the lake\n")
+        )
+        text = office.upload("letters", "mail.mbox", self.of_this_vote(data))
+        self.assertIn("Enter 1 ballot?", offices.seen(text))
+        for page in (text, office.page("letters"), office.page()):
+            self.assertNotIn("town hall", page)
+            self.assertNotIn("2,1,3,4", page)
+        office.yes(text)
+        self.assertIn("town hall, then At the lake", office.page("letters/2"))
+        office.yes(office.post("letters/2", act="enter"))
+        self.assertNotIn("town hall", office.page("letters/2"))
+        self.assertEqual(len(self.lines()), 2)

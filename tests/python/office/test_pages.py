@@ -1,0 +1,256 @@
+"""Each page at each stage of an election, and what the office does as a terminal does it."""
+
+import re
+import shutil
+import subprocess
+
+from tests.support import elections, offices
+from tests.support.elections import POLL, ElectionTest
+from tests.support.questions import FEE, QuestionsTest
+
+PLACES = ("", "letters", "desk/1", "desk/8", "roll", "draft", "all", "do/publish", "do/held")
+# what tidy says of attributes and elements that are newer than it
+NEWER = re.compile(r"proprietary attribute|<svg> element|missing <li>|trimming empty|inputmode")
+
+
+def faults_of_tidy(page):
+    ended = subprocess.run(
+        ["tidy", "-q", "-e", "--show-info", "no"], input=page, capture_output=True, text=True
+    )
+    return [line for line in ended.stderr.splitlines() if not NEWER.search(line)]
+
+
+class EachStage:
+    """The stages of an election; a class of tests has one."""
+
+    # what is entered, so that the vote is a tie
+    ballots = ("ada 1,2,3,4", "ben 2,1,3,4", "cleo 1,2,3,4", "dan 2,1,3,4")
+    casting = "At the lake"
+    refused: tuple[str, ...] = ()
+
+    def test_each_page_at_each_stage(self):
+        office = offices.Office(self)
+        self.look(office, "called")
+        self.vote(office)
+        self.look(office, "voted")
+        office.agree("do/close")
+        self.look(office, "closed")
+        text = office.agree("do/publish")
+        self.assertIn("<h1>A tie</h1>", text)
+        text = self.look(office, "tie")
+        self.assertIn("It is a tie", text)
+        self.cast(office, text)
+        text = self.look(office, "published")
+        self.assertIn("Has won by the casting vote", text)
+        text = office.agree("do/reopen", because="a ballot is missing")
+        if "hold the vote anew" in text:
+            return
+        text = self.look(office, "reopened")
+        # no result is shown that may be another one now
+        self.assertNotIn("casting vote", text.lower())
+        office.agree("do/close")
+        self.assertNotIn("casting vote", self.look(office, "closed again").lower())
+        text = office.agree("do/publish", target="result-3")
+        self.assertIn("A tie", offices.seen(office.page()))
+
+    def vote(self, office):
+        for line in self.ballots:
+            name, ranks = line.split()
+            office.yes(office.type(name, ranks))
+
+    def cast(self, office, text):
+        fields = dict.fromkeys(re.findall(r'type="radio" name="(casting[A-Z]?)"', text))
+        for name in fields:
+            values = re.findall(rf'name="{name}" value="(.*?)"', text)
+            fields[name] = next(value for value in values if value.endswith(self.casting))
+        [target] = re.findall(r'name="target" value="(.*?)"', text)
+        office.agree("do/publish", **fields, cast_by="Ada", cast_on=self.day(), target=target)
+
+    def day(self):
+        [(time,)] = self.rows("SELECT time FROM act ORDER BY act DESC LIMIT 1")
+        return time[:10]
+
+    def look(self, office, stage):
+        """Looks at all pages, and returns the overview."""
+        pages = {}
+        for place in PLACES:
+            is_refused = place in self.refused
+            pages[place] = office.page(place, 409 if is_refused else 200)
+            with self.subTest(stage=stage, place=place):
+                self.assertNotIn("None</", pages[place])
+                if shutil.which("tidy"):
+                    self.assertEqual(faults_of_tidy(pages[place]), [])
+        if big := re.findall(r'href="http://[^/]*(/[^/"]*/)" target', pages[""]):
+            self.assertEqual(office.ask("GET", big[-1])[0], 200)
+        if page := re.findall(r'href="http://[^/]*(/[^/"]*/index.html)" target', pages[""]):
+            status, heads, _ = office.ask("GET", page[0])
+            self.assertEqual(status, 200)
+            self.assertTrue(heads["Content-Security-Policy"].startswith("sandbox"))
+        return pages[""]
+
+
+class Plain(EachStage, ElectionTest):
+    call_words = ("--to", "vote@club.example", "--at", "https://club.example/vote/")
+
+
+class OfCodesForNames(EachStage, ElectionTest):
+    poll = POLL + "secret = true\n"
+
+
+class OfDrawnCodes(EachStage, ElectionTest):
+    poll = POLL + "secret = true\n"
+    codes_words = ("--on-roll",)
+    refused = ("roll",)
+
+    def vote(self, office):
+        names = [
+            name
+            for name, in self.rows(
+                "SELECT name FROM elector_now WHERE position > 0 ORDER BY position"
+            )
+        ]
+        for name, line in zip(names, self.ballots):
+            office.yes(office.type(name, line.split()[1]))
+
+
+class OfSeveral(EachStage, QuestionsTest):
+    polls = {"A": FEE + "motion = true\n", "B": QuestionsTest.polls["B"]}
+    new_words = ("--questions", "2")
+    casting = "Ada Lovelace"
+
+    def vote(self, office):
+        for name, other in (("ada", "1,2,3"), ("ben", "2,1,3")):
+            text = office.type(name, "", ranksA="1,2", ranksB=other)
+            office.yes(text)
+
+
+class InFrench(EachStage, ElectionTest):
+    new_words = ("--language", "fr")
+
+    def test_each_page_at_each_stage(self):
+        """Sentences are asked for in the tests of others."""
+        office = offices.Office(self)
+        self.look(office, "called")
+        self.vote(office)
+        self.look(office, "voted")
+
+
+class BeforeTheCall(ElectionTest):
+    call_words = None
+
+    def test_pages(self):
+        office = offices.Office(self)
+        for place in ("", "roll", "draft", "all", "do/call"):
+            self.assertEqual(faults_of_tidy(office.page(place)), [] if shutil.which("tidy") else [])
+        for place in ("letters", "desk/1"):
+            self.assertIn("there is no call for votes yet", office.page(place, 409))
+
+
+class AsATerminal(ElectionTest):
+    def test_the_acts_are_those_of_a_terminal(self):
+        self.set_clock("2026-12-01T10:00:00+00:00")
+        other = self.scratch / "other"
+        shutil.copytree(self.folder, other)
+        office = offices.Office(self)
+        for line in ("ada 1,2,3,4", "ben 2,1,3,4"):
+            office.yes(office.type(*line.split()))
+        office.agree("do/strike", number="2", because="it was a trial")
+        office.agree("do/close")
+        office.agree("do/publish")
+        acts = self.rows("SELECT name, detail FROM act WHERE name <> 'moved' ORDER BY act")
+        office.end()
+        shutil.move(self.folder, self.scratch / "by page")
+        shutil.move(other, self.folder)
+        desk = ("desk", "--name", "Desk 1", "--moved", "--because", "a copy")
+        self.done(*desk, given="ada 1,2,3,4\n")
+        self.done("desk", "--name", "Desk 1", given="ben 2,1,3,4\n")
+        self.done("strike", "2", "--yes", "--because", "it was a trial")
+        self.done("close", "--yes")
+        self.election("publish")
+        by_hand = self.rows("SELECT name, detail FROM act WHERE name <> 'moved' ORDER BY act")
+        self.assertEqual([name for name, _ in acts], [name for name, _ in by_hand])
+        same = [pair for pair in zip(acts, by_hand) if pair[0][0] != "publish"]
+        self.assertEqual([pair[0] for pair in same], [pair[1] for pair in same])
+
+
+class Drafts(ElectionTest):
+    call_words = None
+
+    def fill_in(self, folder):
+        (folder / "members.csv").write_text(elections.members_of(self.names))
+
+    def test_a_draft_is_filled_in(self):
+        office = offices.Office(self)
+        text = office.page("draft")
+        files = re.findall(r'name="file" value="(.*?)"', text)
+        digests = re.findall(r'name="digest" value="(.*?)"', text)
+        self.assertEqual(files, ["poll.toml", "members.csv", "letter.txt"])
+        fields = {
+            "file": files,
+            "digest": digests,
+            "title": 'Ein "Boot" \\ für uns',
+            "kind": "election",
+            "option": ["Kaufen", "Mieten", ""],
+            "ratio": ["3", "1", "1"],
+            "default": "Nichts",
+            "quorum": "0",
+            "secret": "0",
+            "members": "who\tmail\r\nAda\tada@club.example\r\nBen\tben@club.example\r\n",
+            "letter": "Hello\r\n",
+        }
+        text = office.post("draft", **fields)
+        self.assertIn("2 electors, each with the name on the roll", offices.seen(text))
+        self.assertIn("# The quorum, as a multiple", (self.folder / "poll.toml").read_text())
+        self.assertEqual((self.folder / "letter.txt").read_text(), "Hello\n")
+        self.assertEqual(self.election("check").status, 0)
+        # what the call would send is looked at before it, each time anew
+        for folder in ("preview", "preview-2"):
+            self.assertIn(f'do/check?preview={folder}"', office.page())
+            text = office.post("do/check", preview=folder)
+            self.assertIn(f"Made the folder {folder}", offices.seen(text))
+            self.assertIn(f"print/{folder}/letter.txt", office.page())
+            self.assertIn("Hello", office.page(f"print/{folder}/letter.txt"))
+            self.assertIn("Kaufen", office.page(f"print/{folder}/index.html"))
+            # a script of it would read the secret in its own address
+            found = office.ask("GET", f"{office.base}print/{folder}/index.html")
+            self.assertTrue(found[1]["Content-Security-Policy"].startswith("sandbox; default"))
+        self.assertEqual(self.election("check", "--preview", "preview").status, 2)
+        self.assertEqual({*self.rows("SELECT name FROM act")}, {("new",), ("roll",)})
+        # what lies there now is another file: nothing is written, and both are shown
+        before = self.contents()
+        text = office.post("draft", **{**fields, "title": "Another one"})
+        self.assertIn("Another one", text)
+        self.assertIn("für uns", text)
+        self.assertEqual(self.contents(), before)
+        digests = re.findall(r'name="digest" value="(.*?)"', office.page("draft"))
+        motion = {"kind": "motion", "majority": "2", "title": "We buy it", "digest": digests}
+        office.post("draft", **{**fields, **motion})
+        self.assertIn("We buy it", self.done("check").output)
+        self.assertIn("motion = true", (self.folder / "poll.toml").read_text())
+        poll = (self.folder / "poll.toml").read_text()
+        (self.folder / "poll.toml").write_text(
+            re.sub(r'(?m)^options = \["', 'options = [\n"', poll)
+        )
+        text = office.page("draft")
+        digests = re.findall(r'name="digest" value="(.*?)"', text)
+        text = office.post("draft", **{**fields, "digest": digests})
+        self.assertIn("with an editor", text)
+
+
+class PreviewOfSecretVote(ElectionTest):
+    call_words = None
+    poll = POLL + "secret = true\n"
+
+    def test_names_are_aliases_as_in_the_call(self):
+        self.done("check", "--preview", "early")
+        self.assertFalse((self.folder / "early" / "slip.html").exists())
+        self.done("codes")
+        self.done("check", "--preview", "preview")
+        [(code,)] = self.rows("SELECT code FROM elector_now WHERE name = 'ada'")
+        slip = re.sub(r"<[^>]*>|\s", "", self.read("preview/slip.html").decode())
+        self.assertIn(code, slip)
+        page = self.read("preview/index.html").decode()
+        self.assertNotIn(code, page)
+        self.assertEqual((self.folder / "preview").stat().st_mode & 0o777, 0o700)
+        self.done("call")
+        self.assertEqual(self.read("call/poll.toml"), self.read("preview/poll.toml"))

@@ -1,0 +1,317 @@
+"""Who may ask the office for anything, and how it begins and ends."""
+
+import http
+import pathlib
+import re
+import signal
+import subprocess
+import sys
+import threading
+import time
+from unittest import mock
+
+from debvote_tools.office import office as office_module
+from debvote_tools.office import server
+
+from tests.support import boxes, elections, offices
+from tests.support.elections import ElectionTest
+
+FORM = {"Content-Type": "application/x-www-form-urlencoded"}
+
+
+class WhoAsks(ElectionTest):
+    def test_other_sites_and_other_users(self):
+        office = offices.Office(self)
+        own = {"Host": office.host, "Origin": f"http://{office.host}"}
+        status, heads, _ = office.ask("GET", office.base)
+        self.assertEqual(status, http.HTTPStatus.OK)
+        self.assertEqual(heads["Referrer-Policy"], "same-origin")
+        self.assertEqual(heads["Cache-Control"], "no-store")
+        self.assertEqual(
+            heads["Content-Security-Policy"],
+            "default-src 'none'; style-src 'self'; script-src 'self'; form-action 'self'; frame-ancestors 'none'; base-uri 'none'",
+        )
+        port = office.host.partition(":")[2]
+        for host in ("localhost:" + port, "evil.example", "127.0.0.1", f"127.0.0.1:{port}0"):
+            self.assertEqual(office.ask("GET", office.base, Host=host)[0], 421, host)
+        for path in ("/", "/x", "/x/roll", office.base[:-2], office.base[:-2] + "x/", "//"):
+            self.assertEqual(office.ask("GET", path)[0], 404, path)
+        before = self.contents()
+        for heads in (
+            {**own, "Origin": "null"},
+            {**own, "Origin": "http://evil.example"},
+            {**own, "Origin": f"http://localhost:{port}"},
+            {"Host": office.host},
+            {**own, "Sec-Fetch-Site": "cross-site"},
+            {**own, "Sec-Fetch-Site": "same-site"},
+            {**own, "Sec-Fetch-Site": "none"},
+        ):
+            form = "letters=1&numbers=1&early=1"
+            found = office.ask("POST", office.base + "do/close", form, **FORM, **heads)
+            self.assertEqual(found[0], 403, heads)
+        self.assertEqual(self.contents(), before)
+        self.assertEqual(office.process.poll(), None)
+
+    def test_a_secret_of_a_wall_or_of_a_result_opens_nothing_else(self):
+        office = offices.Office(self)
+        text = office.page()
+        # no script of another page learns by the referrer what opens all
+        self.assertEqual(text.count("_blank"), text.count('rel="noopener noreferrer"'))
+        [big] = re.findall(r'href="http://[^/]*(/[^/"]*/)" target', text)
+        self.assertNotEqual(big, office.base)
+        status, _, body = office.ask("GET", big)
+        self.assertEqual(status, 200)
+        self.assertNotIn(office.base, body.decode())
+        for place in ("roll", "letters", "do/close", "draft", "print/private/slips.html"):
+            self.assertEqual(office.ask("GET", big + place)[0], 404, place)
+        own = {"Origin": f"http://{office.host}"}
+        self.assertEqual(office.ask("POST", big + "end", "", **FORM, **own)[0], 404)
+        self.assertEqual(office.ask("POST", big + "do/close", "early=1", **FORM, **own)[0], 404)
+
+    def test_no_page_leaves_the_folder(self):
+        (self.folder / "private").mkdir(exist_ok=True)
+        (self.folder / "private" / "codes.csv").write_text("secret")
+        office = offices.Office(self)
+        for place in (
+            "print/election.db",
+            "print/private/codes.csv",
+            "print/letters/call/../../election.db",
+            "print/..%2f..%2fetc%2fpasswd",
+            "print//etc/passwd",
+            "result/index.html",
+            "do/new",
+            "do/desk",
+            "do/__init__",
+            "desk/9",
+            "desk/0",
+            "desk/x",
+            "run/1",
+            "run/" + "9" * 30,
+            "letters/7",
+            "x",
+        ):
+            self.assertEqual(office.ask("GET", office.base + place)[0], 404, place)
+
+    def test_a_request_is_limited(self):
+        office = offices.Office(self)
+        own = {"Origin": f"http://{office.host}", **FORM}
+        long = {**own, "Content-Length": str(16 * 1024 * 1024 + 1)}
+        self.assertEqual(office.ask("POST", office.base + "letters", "", **long)[0], 413)
+        odd = {**own, "Content-Length": "x"}
+        self.assertEqual(office.ask("POST", office.base + "letters", "", **odd)[0], 411)
+        bad = {"Origin": own["Origin"], "Content-Type": "multipart/form-data"}
+        self.assertIn(
+            office.ask("POST", office.base + "letters", b"\xff\xfe", **bad)[0], (303, 400)
+        )
+        self.assertEqual(office.ask("HEAD", office.base)[0], 501)
+        self.assertEqual(office.ask("PUT", office.base, "x")[0], 501)
+
+
+class Values(ElectionTest):
+    def test_what_looks_like_an_option_is_a_value(self):
+        office = offices.Office(self)
+        text = office.post("do/show", name="--help")
+        self.assertIn("no elector on the roll is `--help`", offices.seen(text))
+        text = office.post("do/strike", number="1", because="--moved\r\n--yes")
+        self.assertNotIn("unrecognized", text)
+        self.assertIn("strike --because=--moved", offices.seen(text))
+
+    def test_what_a_command_asks_has_no_answer_in_a_form(self):
+        office = offices.Office(self)
+        self.assertNotIn('name="yes"', office.page("do/close"))
+        self.assertNotIn('name="moved"', office.page("do/close"))
+        text = office.post("do/close", yes="1", moved="1")
+        self.assertIn("Is that all?", offices.seen(text))
+        self.assertIn("wait", offices.seen(office.page()))
+        office.yes(text, "n")
+        self.assertNotIn(("close",), self.rows("SELECT name FROM act"))
+        office.yes(office.post("do/close"))
+        self.assertIn(("close",), self.rows("SELECT name FROM act"))
+
+    def test_an_answer_is_taken_once_and_by_its_own_question_alone(self):
+        office = offices.Office(self)
+        first = office.post("do/close")
+        place = office.place
+        lost = "it was not taken"
+        for number in ("0", str(office.asked(first) + 1), "", "x"):
+            self.assertIn(lost, office.post(place, asked=number, answer="y"))
+        self.assertIn(lost, office.post(place, asked=office.asked(first), answer="y\ny"))
+        office.post(place, asked=office.asked(first), answer="n")
+        self.assertIn(lost, office.post(place, asked=office.asked(first), answer="y"))
+        again = office.post("do/close")
+        self.assertIn(lost, office.post(office.place, asked=office.asked(first), answer="y"))
+        self.assertNotIn(("close",), self.rows("SELECT name FROM act"))
+        office.yes(again)
+        self.assertIn(("close",), self.rows("SELECT name FROM act"))
+
+
+class BeginAndEnd(ElectionTest):
+    def test_there_is_one_office_for_a_book(self):
+        office = offices.Office(self)
+        words = [sys.executable, str(offices.OFFICE), str(self.folder)]
+        env = elections.environment() | {
+            "XDG_STATE_HOME": str(self.state),
+            "BROWSER": "true",
+            "DISPLAY": "",
+        }
+        second = subprocess.run(words, capture_output=True, text=True, env=env, timeout=60)
+        self.assertEqual(second.returncode, 0, second)
+        [page] = re.findall(r"its page is (.*)\.\n", second.stdout)
+        self.assertIn(office.address, pathlib.Path(page).read_text())
+        self.assertEqual(pathlib.Path(page).stat().st_mode & 0o777, 0o600)
+        self.assertEqual(pathlib.Path(page).parent.stat().st_mode & 0o777, 0o700)
+        office.end()
+        self.assertFalse(pathlib.Path(page).exists())
+        offices.Office(self).page()
+
+    def test_its_end_interrupts_what_runs(self):
+        office = offices.Office(self)
+        office.post("do/close")
+        office.type("ada", "1,2,3,4")
+        children = offices.children(office)
+        self.assertEqual(len(children), 2)
+        self.assertIn("has ended", office.post("end"))
+        office.process.wait(timeout=30)
+        self.assertEqual(office.process.returncode, 0)
+        self.assert_gone(children)
+        self.assertEqual(self.rows("SELECT * FROM envelope"), [])
+
+    def test_a_kill_leaves_no_command_and_a_whole_book(self):
+        office = offices.Office(self)
+        office.post("do/close")
+        office.type("ada", "1,2,3,4")
+        children = offices.children(office)
+        office.process.send_signal(signal.SIGKILL)
+        office.process.wait(timeout=30)
+        self.assert_gone(children)
+        self.assertEqual(self.rows("SELECT * FROM envelope"), [])
+        self.done("log", "--check")
+
+    def assert_gone(self, children):
+        end = time.monotonic() + elections.SECONDS
+        while any(map(offices.is_there, children)):
+            self.assertLess(time.monotonic(), end)
+            time.sleep(0.05)
+
+    def test_it_ends_if_nobody_asks_for_long(self):
+        of_hours = office_module.Office(offices.OFFICE.parent, "en")
+        self.addCleanup(of_hours.close)
+        with mock.patch.object(office_module, "IDLE", 0.1), server.Server(of_hours, 0) as serving:
+            thread = threading.Thread(target=serving.serve_forever)
+            thread.start()
+            thread.join(elections.SECONDS)
+            self.assertFalse(thread.is_alive())
+
+    def test_it_opens_and_makes_elections(self):
+        office = offices.Office(self, folder=str(self.scratch))
+        self.assertIn("it is not an election", office.page())
+        self.assertEqual(office.ask("GET", office.base + "roll")[0], 404)
+        self.assertIn("it is no whole path", office.post("new", folder="x"))
+        made = self.scratch / "new one"
+        text = office.post("new", folder=str(made), language="de", questions="3")
+        self.assertIn("Made the folder", offices.seen(text))
+        self.assertTrue((made / "polls" / "C.toml").is_file())
+        text = office.post("folder", folder=str(made))
+        self.assertIn("In Vorbereitung", text)
+        other = offices.Office(self, folder="")
+        self.assertIn(str(made), other.page())
+        self.assertIn("another office", other.post("folder", folder=str(made)))
+        self.assertIn("0 of 9", offices.seen(other.post("folder", folder=str(self.folder))))
+
+    def test_pages_and_commands_leave_nothing_open(self):
+        office = offices.Office(self)
+        for _ in range(3):
+            office.page("letters")
+            office.post("do/show", name="ada")
+        before = offices.descriptors(office)
+        for number in range(100):
+            office.page(("", "roll", "letters", "desk/1", "all", "draft")[number % 6])
+        for _ in range(6):
+            office.post("do/show", name="ada")
+        # the socket of the last answer is closed after it
+        end = time.monotonic() + elections.SECONDS
+        while offices.descriptors(office) > before:
+            self.assertLess(time.monotonic(), end)
+            time.sleep(0.05)
+        self.assertEqual(offices.children(office), [])
+        status = pathlib.Path(f"/proc/{office.process.pid}/status").read_text()
+        [memory] = re.findall(r"VmRSS:\s+(\d+) kB", status)
+        self.assertLess(int(memory), 80_000)
+
+
+class OwnPrograms(ElectionTest):
+    call_words = ("--to", "vote@club.example", "--at", "https://club.example/vote/")
+
+    def write_programs(self, folder=None):
+        said = self.scratch / "said"
+        words = ["cp", "-r", "{folder}/", str(said)]
+        fetch = [sys.executable, "-c", f"open({str(self.scratch / 'mail.mbox')!r}, 'w').close()"]
+        text = f"upload = {words}\nfetch = {fetch}\nmailbox = {str(self.scratch / 'mail.mbox')!r}\n"
+        ((folder or self.folder) / "office.toml").write_text(text)
+        return said
+
+    def test_nothing_runs_before_somebody_agrees(self):
+        said = self.write_programs()
+        office = offices.Office(self)
+        text = office.page()
+        self.assertIn("nobody has agreed", text)
+        self.assertIn("cp -r {folder}/", offices.seen(text))
+        self.assertNotIn(f'{office.base}upload"', text)
+        for place, fields in (("upload", {"kind": "call"}), ("fetch", {})):
+            self.assertIn("nobody has agreed", office.post(place, **fields))
+        self.assertFalse(said.exists())
+        office.post("agree", digest="0" * 64)
+        self.assertIn("nobody has agreed", office.post("upload", kind="call"))
+        [digest] = re.findall(r'name="digest" value="(\w+)"', text)
+        text = office.post("agree", digest=digest)
+        self.assertNotIn("nobody has agreed", text)
+        text = office.post("upload", kind="call")
+        self.assertTrue((said / "call.txt").is_file(), text)
+        text = office.post("fetch")
+        self.assertNotIn("nobody has agreed", text)
+        # a changed file, and one at another place, ask anew
+        (self.folder / "office.toml").write_text('upload = ["false"]\n')
+        self.assertIn("nobody has agreed", office.page())
+        self.assertIn("nobody has agreed", office.post("upload", kind="call"))
+        self.write_programs()
+        self.assertNotIn("nobody has agreed", office.page())
+        office.end()
+        self.folder.rename(self.scratch / "elsewhere")
+        copy = offices.Office(self, folder=str(self.scratch / "elsewhere"))
+        self.assertIn("nobody has agreed", copy.page())
+
+    def test_a_file_that_is_no_list_of_words_is_a_fault(self):
+        office = offices.Office(self)
+        for text in ('upload = "rsync"', "upload = [1]", 'fetch = ["x"]', "x"):
+            (self.folder / "office.toml").write_text(text)
+            status, _, body = office.ask("GET", office.base)
+            self.assertEqual(status, 409, text)
+            self.assertIn("office.toml", body.decode())
+
+
+class WithBox(boxes.BoxElectionTest):
+    def test_the_web_host_is_asked_before_and_after_an_upload(self):
+        self.begun(ada="1,2,3,4")
+        words = ["cp", "-r", "{folder}/.", str(self.web)]
+        (self.folder / "office.toml").write_text(f"upload = {words}\n")
+        office = offices.Office(self)
+        [digest] = re.findall(r'name="digest" value="(\w+)"', office.page())
+        office.post("agree", digest=digest)
+        before = self.askings()
+        # what lies there is fetched first; it is asked about, and a no keeps nothing back
+        text = office.post("upload", kind="call")
+        self.assertIn("Enter 1 ballot?", offices.seen(text))
+        text = office.yes(text, "n")
+        self.assertEqual(self.askings(), before + 2)
+        # a program that fails is the last of its row
+        (self.folder / "office.toml").write_text('upload = ["false"]\n')
+        [digest] = re.findall(r'name="digest" value="(\w+)"', office.page())
+        office.post("agree", digest=digest)
+        text = office.post("upload", kind="call")
+        text = office.yes(text, "n") if 'name="asked"' in text else text
+        self.assertIn("<h1>Look at this</h1>", text)
+        self.assertEqual(self.askings(), before + 3)
+
+    def askings(self):
+        query = "SELECT count(*) FROM act WHERE name = 'letters' AND detail ->> 'box' IS NOT NULL"
+        return self.rows(query)[0][0]

@@ -1,0 +1,148 @@
+"""An office for the election of a test, which asks it for pages by HTTP."""
+
+import html
+import http.client
+import os
+import pathlib
+import re
+import signal
+import subprocess
+import sys
+import time
+import urllib.parse
+
+from tests.support import elections
+from tests.support.program import ROOT
+
+OFFICE = ROOT / "bin" / "debvote-office"
+TAGS = re.compile(r"<[^>]*>")
+
+
+class Office:
+    """`debvote-office`, which runs until the test ends."""
+
+    def __init__(self, test: elections.ElectionTest, *words: str, folder: str | None = None, **env):
+        self.test = test
+        place = [str(test.folder)] if folder is None else [folder] if folder else []
+        self.process = subprocess.Popen(
+            [sys.executable, str(OFFICE), "--no-browser", *words, *place],
+            stdout=subprocess.PIPE,
+            stderr=subprocess.PIPE,
+            text=True,
+            env=elections.environment() | test.clock | {"XDG_STATE_HOME": str(test.state)} | env,
+        )
+        test.addCleanup(self.end)
+        self.address = self.process.stdout.readline().strip()
+        test.assertTrue(self.address.startswith("http://127.0.0.1:"), self.address)
+        parts = urllib.parse.urlsplit(self.address)
+        self.host = parts.netloc
+        self.base = parts.path
+
+    def end(self):
+        if self.process.poll() is None:
+            self.process.send_signal(signal.SIGTERM)
+        try:
+            self.process.communicate(timeout=elections.SECONDS)
+        except ValueError:
+            self.process.wait()
+
+    def ask(self, method, path, body=None, **heads):
+        """The status, the heads and the bytes that answer a request."""
+        connection = http.client.HTTPConnection(self.host, timeout=elections.SECONDS)
+        try:
+            connection.request(method, path, body, heads)
+            answer = connection.getresponse()
+            return answer.status, dict(answer.getheaders()), answer.read()
+        finally:
+            connection.close()
+
+    def page(self, place="", status=200):
+        """A page, after those that lead to it."""
+        for _ in range(40):
+            found, heads, body = self.ask("GET", self.base + place)
+            if found != 303:
+                break
+            place = heads["Location"].removeprefix(self.base)
+        self.place = place
+        text = body.decode()
+        self.test.assertEqual(found, status, text)
+        self.test.assertNotIn("could not make this page", text)
+        self.test.assertNotIn("Traceback", text)
+        return text
+
+    def post(self, place, **fields):
+        """What follows a form, once no command runs any more that it has started."""
+        body = urllib.parse.urlencode(fields, doseq=True)
+        return self.posted(place, body, **{"Content-Type": "application/x-www-form-urlencoded"})
+
+    def posted(self, place, body, **heads):
+        heads = {"Origin": f"http://{self.host}", **heads}
+        status, found, data = self.ask("POST", self.base + place, body, **heads)
+        if status != 303:
+            return data.decode()
+        text = self.page(found["Location"].removeprefix(self.base))
+        end = time.monotonic() + elections.SECONDS
+        while 'http-equiv="refresh"' in text and time.monotonic() < end:
+            time.sleep(0.05)
+            text = self.page(self.place)
+        return text
+
+    def upload(self, place, name, data):
+        """Posts a file as a browser does."""
+        body = (
+            b'--x\r\nContent-Disposition: form-data; name="file"; filename="'
+            + name.encode()
+            + b'"\r\n\r\n'
+            + data
+            + b"\r\n--x--\r\n"
+        )
+        return self.posted(place, body, **{"Content-Type": "multipart/form-data; boundary=x"})
+
+    def asked(self, text):
+        """The number of the question that a page asks."""
+        return int(re.search(r'name="asked" value="(\d+)"', text)[1])
+
+    def yes(self, text, answer="y", place=None):
+        """Answers what a page asks, by its own form."""
+        action = re.search(r'action="([^"]*)"><input type="hidden" name="asked"', text)[1]
+        action = action.removeprefix(self.base)
+        return self.post(place or action, asked=self.asked(text), answer=answer)
+
+    def agree(self, place, **fields):
+        """What a command says at last that is answered with yes as often as it asks."""
+        text = self.post(place, **fields)
+        while 'name="asked"' in text:
+            text = self.yes(text)
+        return text
+
+    def type(self, name, ranks, desk=1, **answers):
+        """Types a ballot at a desk, and returns the page that reads it back."""
+        text = self.page(f"desk/{desk}")
+        if 'name="begin"' in text:
+            text = self.post(f"desk/{desk}", begin="1")
+        fields = {"name": name, "ranks": ranks, "asked": self.asked(text), **answers}
+        return self.post(f"desk/{desk}", **fields)
+
+
+def seen(text):
+    """What a reader sees of a page."""
+    return " ".join(html.unescape(TAGS.sub(" ", text)).split())
+
+
+def descriptors(office):
+    return len(os.listdir(f"/proc/{office.process.pid}/fd"))
+
+
+def children(office):
+    """The commands that an office runs."""
+    pid = office.process.pid
+    found = pathlib.Path(f"/proc/{pid}/task").glob("*/children")
+    return [int(child) for file in found for child in file.read_text().split()]
+
+
+def is_there(pid):
+    """Whether a process runs, and has not ended without being waited for."""
+    try:
+        return pathlib.Path(f"/proc/{pid}/stat").read_text().rpartition(")")[2].split()[0] != "Z"
+    except (FileNotFoundError, ProcessLookupError):
+        return False
