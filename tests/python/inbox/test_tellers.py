@@ -195,7 +195,7 @@ class WholeVote(teller_elections.TellerElectionTest):
         for step in range(3):
             self.assertIn(f"{tellers.sha256(self.list_of(step))} {list_name(step)}", text)
         export = self.scratch / "export"
-        self.done("export", export)
+        self.done("export", "--yes", export)
         places = [f"{n:02} {line.split(' ')[1]}" for n, line in enumerate(self.ballots(), start=1)]
         self.assertEqual((export / "ballots.txt").read_text().splitlines(), places)
         self.assertEqual((export / "poll.toml").read_bytes(), self.read("call/poll.toml"))
@@ -243,7 +243,7 @@ class WholeVote(teller_elections.TellerElectionTest):
         self.begun(**rare)
         said = [self.add_box()]
         self.receipts()
-        said += [self.told(f"show {name}") for name in rare]
+        said += [self.told(f"show {name} --yes") for name in rare]
         said += [self.told(words) for words in ("log", "held", "status", "status --json")]
         said += [self.close_early()]
         said += [self.told("tellers", self.open(1))]
@@ -255,7 +255,7 @@ class WholeVote(teller_elections.TellerElectionTest):
         said += [self.told("tellers", self.open(2)), self.told("count")]
         self.told("publish", "--yes")
         self.told("letters", "result")
-        after = self.everything(*said, *(self.told(f"show {name}") for name in rare))
+        after = self.everything(*said, *(self.told(f"show {name} --yes") for name in rare))
         for line in self.lines.values():
             self.assertIn(line.encode(), after)
         # the only names beside what was opened are those of who had it in hand: no file has both
@@ -287,7 +287,8 @@ class WholeVote(teller_elections.TellerElectionTest):
         self.told("tellers", file)
         file.write_bytes(again)
         # signed anew it is the same list
-        self.assertIn("dora opens it", self.told("tellers", file))
+        self.told("tellers", file)
+        self.tells("status", "dora opens list-1.txt in the hall, or once it was there for a day; then ")
 
 
 @NEEDS_PHP
@@ -620,7 +621,7 @@ class HandedOn(teller_elections.TellerElectionTest):
         second = self.open(2)
         self.refused(f"tellers {second}", "the next list is list-1.txt, and this is of step 2")
         said = self.told("tellers", second, first)
-        self.assertIn("Next: print it, and let members look for their numbers", said)
+        self.assertIn("Print urn/list-2.txt, and let members look for their numbers.\n", said)
         self.assertEqual(self.ballots(), sorted(self.lines.values()))
 
     def test_whose_blocks_the_first_teller_refuses(self):
