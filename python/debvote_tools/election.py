@@ -299,19 +299,15 @@ class Election:
         return language_of(self.book.acts()[0].detail["language"])
 
     def history(self) -> History:
-        """The acts until now. From here on times are told in the zone of the vote, and what people
-        wrote as its secrecy allows.
-        """
+        """The acts until now. From here on times are told in the zone of the vote."""
         history = History(self.book.acts())
         ZONE.set(history.zone)
-        has_names = history.call and queries.has_sealed(
-            self.book, POLL_WITH_NAMES, history.call.number
-        )
-        WHOSE.set(functools.partial(queries.whose, self.book) if has_names else None)
         return history
 
     def sealed(self, call: DoneAct | None = None) -> Sealed:
-        """The questions of the call that holds, or of another one. Stops before the call."""
+        """The questions of the call that holds, or of another one. Stops before the call. From here
+        on what people wrote is told as the secrecy of the vote allows.
+        """
         act = (call or self.called(self.history())).number
         public = queries.sealed_polls(self.book, POLL, act) or {"": b""}
         counted = queries.sealed_polls(self.book, POLL_WITH_NAMES, act) or public
@@ -319,9 +315,11 @@ class Election:
         title = queries.sealed(self.book, TITLE, act).decode()
         try:
             read = (read_questions(polls, motions, title) for polls in (public, counted))
-            return Sealed(*read)
+            sealed = Sealed(*read)
         except Fault:
             raise damaged(self.path(BOOK_FILE), "its sealed poll is not in plain form") from None
+        WHOSE.set(functools.partial(queries.whose, self.book) if sealed.is_aliased else None)
+        return sealed
 
     @property
     def questions(self) -> Questions:

@@ -97,12 +97,6 @@ def sealed_polls(book: Book, name: str, act: int) -> dict[str, bytes]:
     return dict(book.rows(query, name, act))
 
 
-def has_sealed(book: Book, name: str, act: int) -> bool:
-    """Whether an act sealed something under a name, or under it with a label."""
-    query = "SELECT count(*) FROM sealed WHERE act = ?2 AND (name = ?1 OR name GLOB ?1 || ' ?')"
-    return bool(book.value(query, name, act))
-
-
 def labels_of(book: Book) -> list[str]:
     """The labels of the questions, as lines have them: of one alone, which has none, or is the only
     one that is seen, it is empty.

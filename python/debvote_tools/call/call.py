@@ -83,8 +83,6 @@ class CallData:
     has_codes_on_roll: bool
     # codes were given out with a call that was taken back
     has_lapsed_codes: bool
-    # in which times are told
-    zone: datetime.tzinfo | None = datetime.UTC
     # the script beside the page takes no ballots now, as letters say
     is_without_box: bool = False
 
@@ -302,7 +300,6 @@ def current_call(
         letter_text=queries.sealed(election.book, LETTER_TEXT).decode(),
         has_aliases=sealed.is_aliased,
         has_codes_on_roll=now.has_codes_on_roll,
-        zone=now.zone,
         has_lapsed_codes=any(act.detail.get("codes") for act in now.named("take back")),
     )
 

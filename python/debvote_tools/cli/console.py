@@ -28,7 +28,7 @@ LINES_AT_ONCE = 1_000
 ZONE = contextvars.ContextVar[datetime.tzinfo | None]("zone", default=datetime.UTC)
 # leaves out of a text what is never shown, such as the links with which somebody could vote
 LEAVING_OUT = contextvars.ContextVar[Callable[[str], str]]("leaving out", default=str)
-# in a secret vote with names, once the acts are read: whose line one is. There no command tells
+# in a secret vote with names, once its poll is read: whose line one is. There no command tells
 # what is in it, or in a letter, before somebody asked for it
 WHOSE = contextvars.ContextVar[Callable[[bytes], str] | None]("whose", default=None)
 IS_ASKED_FOR = contextvars.ContextVar[bool]("is asked for", default=False)

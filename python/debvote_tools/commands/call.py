@@ -5,6 +5,7 @@ import datetime
 import os
 import shlex
 import shutil
+import time
 from collections.abc import Iterator
 
 from debvote_tools.book import queries
@@ -149,7 +150,7 @@ def call_first(election: Election, arguments: Arguments) -> None:
     if arguments.box and draft.questions.is_secret:
         detail["slips"] = arguments.slips or asked_slips()
     detail |= {
-        "offset": times.offset_here(),
+        "offset": time.localtime().tm_gmtoff,
         "names": arguments.names,
         "box": arguments.box,
         "codes_on_roll": history.has_codes_on_roll,

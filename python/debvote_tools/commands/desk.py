@@ -33,7 +33,7 @@ from debvote_tools.outbox.steps import tell_next
 from debvote_tools.poll.plain_names import alike
 from debvote_tools.text.ballots import answers_text, ranks_by_label
 from debvote_tools.text.language import ENGLISH
-from debvote_tools.text.motions import Words, with_initials
+from debvote_tools.text.motions import Words
 
 QUIT = b"q"
 # enters what does not count: a yes comes by habit
@@ -112,7 +112,8 @@ class Desk:
         """
         names = self.vote.names
         if self.vote.label or not names.labels:
-            self.vote.names = dataclasses.replace(names, words=with_initials(names.words))
+            letters = {word[0]: ranks for word, ranks in names.words.items()}
+            self.vote.names = dataclasses.replace(names, words={**names.words, **letters})
         return self.names.words if self.vote.label else self.vote.names.words
 
     def next_typed(self) -> bytes | None:
@@ -376,8 +377,7 @@ def ask_and_cast(desk: Desk, line: Line) -> None:
     checked = desk.vote.checked_lines([meant])
     for ballot in checked:
         if not ballot.can_be_entered:
-            with asked_for(True):
-                tell(desk.vote.why_not_entered(ballot), NOT_ENTERED)
+            tell(desk.vote.why_not_entered(ballot), NOT_ENTERED)
             return
     [elector] = desk.vote.electors_of([checked[0].as_entered])
     desk.enter(checked, elector, asks=True)
@@ -458,7 +458,11 @@ def question(
     with asked_for(True):
         shown = [*change_words(lines[0])]
         for line in lines:
-            shown += typed_words(desk.vote, line)
+            if finding := line.lasting:
+                refused = f"{shown_line(line.as_entered)}: {finding.word}: {finding.hint}"
+                shown += [f"It would be refused: {refused}", desk.vote.right_words()]
+            else:
+                shown.append(desk.vote.in_words(line))
     ballots = [line for line in lines if line.is_ballot]
     if ballots and is_late:
         shown.append("It is late, and will not count.")
@@ -467,14 +471,6 @@ def question(
     if ballots == lines:
         return shown, "Enter it?"
     return shown, "What is refused does not count. Type the line anew, or enter to enter it so: "
-
-
-def typed_words(vote: Vote, line: CheckedLine) -> Iterator[str]:
-    if finding := line.lasting:
-        refused = f"{shown_line(line.as_entered)}: {finding.word}: {finding.hint}"
-        yield from (f"It would be refused: {refused}", vote.right_words())
-    else:
-        yield vote.in_words(line)
 
 
 def earlier_words(vote: Vote, ballot: CheckedLine, elector: int) -> Iterator[str]:

@@ -6,7 +6,7 @@ import re
 
 from debvote_tools.book import queries
 from debvote_tools.cli.arguments import Options, flag, positional
-from debvote_tools.cli.console import demand_yes, hides, tell
+from debvote_tools.cli.console import demand_yes, tell
 from debvote_tools.cli.faults import bad_words
 from debvote_tools.election import CALL, LETTERS, PRIVATE, RESULT, Election
 from debvote_tools.files import whole_folder, write_whole
@@ -30,8 +30,7 @@ def export(election: Election, arguments: Arguments) -> None:
     election.whole_book()
     target_folder = pathlib.Path(arguments.target_folder)
     demand_new(election, target_folder, "folder")
-    election.history()
-    if hides() and not arguments.yes:
+    if not arguments.yes and election.sealed().is_aliased:
         demand_yes("Write who voted what?", "this writes who voted what into files")
     files = exported(election)
     with whole_folder(target_folder) as folder:

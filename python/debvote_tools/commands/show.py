@@ -10,7 +10,6 @@ from debvote_tools.cli.console import (
     asked_for,
     demand_yes,
     hides,
-    private,
     shown_line,
     shown_text,
     tell,
@@ -36,32 +35,28 @@ def show(election: Election, arguments: Arguments) -> None:
     elector = elector_named(election, vote, arguments.name)
     if hides() and not arguments.yes:
         demand_yes(f"Show what {elector.name} voted?", f"this shows what {elector.name} voted")
-    with asked_for(True):
-        show_elector(election, vote, elector)
-
-
-def show_elector(election: Election, vote: Vote, elector: queries.Elector) -> None:
     history = election.history()
-    who = f": {shown_text(elector.who)} {', '.join(map(shown_text, elector.addresses))}"
-    # nobody knows whose code it is
-    tell(elector.name if vote.has_codes else f"{elector.name}{who.rstrip(': ')}")
-    fates = fates_of(election, history, elector)[elector.name]
-    came = [fate.envelope for fate in fates if fate.envelope]
-    tell(*(f"  {line}" for fate in fates for line in fate_words(vote, history, fate, came)))
-    current = queries.what_counts(election.book, {elector.number}).get(elector.name)
-    words = "The current ballot"
-    if current and vote.is_several:
-        words += f": {private(f'{elector.name} {current}')}"
-    tell(vote.with_answers(words, current) if current else f"{words}: none")
-    for letter in sorted(
-        outgoing.outgoing_letters(election.book, elector=elector.number),
-        key=lambda letter: letter.time,
-    ):
-        where = f"to {letter.address}" if letter.address else "to be printed"
-        reply = f" ({shown_text(letter.reply)})" if letter.reply else ""
-        tell(
-            f"  {letter.kind.removesuffix('s')}, {act_time(letter.time)}, {where}: {letter.state}{reply}"
-        )
+    with asked_for(True):
+        who = f": {shown_text(elector.who)} {', '.join(map(shown_text, elector.addresses))}"
+        # nobody knows whose code it is
+        tell(elector.name if vote.has_codes else f"{elector.name}{who.rstrip(': ')}")
+        fates = fates_of(election, history, elector)[elector.name]
+        came = [fate.envelope for fate in fates if fate.envelope]
+        tell(*(f"  {line}" for fate in fates for line in fate_words(vote, history, fate, came)))
+        current = queries.what_counts(election.book, {elector.number}).get(elector.name)
+        words = "The current ballot"
+        if current and vote.is_several:
+            words += f": {elector.name} {current}"
+        tell(vote.with_answers(words, current) if current else f"{words}: none")
+        for letter in sorted(
+            outgoing.outgoing_letters(election.book, elector=elector.number),
+            key=lambda letter: letter.time,
+        ):
+            where = f"to {letter.address}" if letter.address else "to be printed"
+            reply = f" ({shown_text(letter.reply)})" if letter.reply else ""
+            tell(
+                f"  {letter.kind.removesuffix('s')}, {act_time(letter.time)}, {where}: {letter.state}{reply}"
+            )
 
 
 def elector_named(election: Election, vote: Vote, name: str) -> queries.Elector:
@@ -118,5 +113,5 @@ def fate_words(vote: Vote, history: History, fate: Fate, came: Sequence[Envelope
 
 def refused_line(vote: Vote, envelope: Envelope) -> str:
     is_code = has_code(envelope.line.decode("utf-8", "replace")) and not vote.has_codes
-    said = private(f"{shown_line(envelope.line)}: {envelope.why_refused}")
+    said = f"{shown_line(envelope.line)}: {envelope.why_refused}"
     return said + (IS_CODE if is_code else "")

@@ -128,9 +128,12 @@ def is_unasked_since_end(history: History) -> bool:
     )
 
 
-def is_asked_by_this_run(election: Election, history: History) -> bool:
-    """Whether this run has asked the box: until an early close ballots come at any time."""
-    return any(act.number in election.opened.own_acts for act in history.askings[-1:])
+def since_when_early(election: Election, history: History) -> datetime.datetime:
+    """Since when the box has to be asked before an early close, until which ballots come at any
+    time: by this run, and lately by the clock of the host, too.
+    """
+    is_by_this_run = any(act.number in election.opened.own_acts for act in history.askings[-1:])
+    return now() - FRESH if is_by_this_run else now()
 
 
 def unasked_fault(election: Election, history: History, what: str) -> Fault | None:
@@ -151,7 +154,7 @@ def unasked_fault(election: Election, history: History, what: str) -> Fault | No
         "at": recently if last else None,
         # what comes after the first close is late
         "close": None if closes else history.until,
-        "early": None if closes else recently if is_asked_by_this_run(election, history) else now(),
+        "early": None if closes else since_when_early(election, history),
         **dict.fromkeys(AFTER_CLOSE, closes[0].time if history.was_closed_early else None),
     }
     since = times.get(what)
@@ -160,13 +163,12 @@ def unasked_fault(election: Election, history: History, what: str) -> Fault | No
     words, force = NEEDS["call" if is_unseen else "page" if is_other else what]
     if last and since and is_right and history.askings[-1].time > since:
         words += f": when the web box was asked last, it was only {act_time(from_text(last['time']))} by its own clock"
-    cure = how_to_ask(election, what)
-    if not is_right:
-        cure = f"upload the folder call, then {cure}"
-    if force:
-        cure += f"; if it does not answer any more, {force}"
+    cure = how_to_ask(election, what, force, is_right=is_right)
     return Fault(what if force == WITHOUT_PAGE else "--box", words, cure)
 
 
-def how_to_ask(election: Election, what: str) -> str:
-    return f"run {'the command again' if what in ASKING else election.command('add', '--box')}"
+def how_to_ask(election: Election, what: str, force: str, *, is_right: bool) -> str:
+    ask = "the command again" if what in ASKING else election.command("add", "--box")
+    upload = "" if is_right else "upload the folder call, then "
+    by_force = f"; if it does not answer any more, {force}" if force else ""
+    return f"{upload}run {ask}{by_force}"

@@ -367,12 +367,11 @@ class Vote:
         word = "" if line.finding.word == reply else f"{line.finding.word}: "
         # so that nobody takes one elector for another
         others = self.other_names(line.finding.near)
-        names = f" (or {ENGLISH.joined(others)})" if others else ""
+        why = f"{line.finding.hint}{f' (or {ENGLISH.joined(others)})' if others else ''}"
         is_code = has_code(line.as_meant.decode("utf-8", "replace")) and not self.has_codes
-        why = f"{line.finding.hint}{names}"
-        # a name alone
-        why = why if line.finding.near else private(why)
-        return f"{shown_line(line.as_entered)}: {word}{why}{IS_CODE if is_code else ''}"
+        # a name alone is told
+        said = why if line.finding.near else private(why)
+        return f"{shown_line(line.as_entered)}: {word}{said}{IS_CODE if is_code else ''}"
 
     def with_answers(
         self, words: str, answers: str, indent: str = "  ", *, is_short: bool = False
@@ -395,8 +394,7 @@ class Vote:
 
     def are_many(self, ballots: Iterable[str]) -> bool:
         """Whether ballots of several questions have more lines in words than are read at once."""
-        are_many = self.is_several and sum(map(len, map(answers_of, ballots))) > MOST_ANSWERS
-        return are_many and not hides()
+        return self.is_several and sum(map(len, map(answers_of, ballots))) > MOST_ANSWERS
 
     @property
     def show_words(self) -> str:

@@ -148,7 +148,8 @@ def letters_due(
     hides_codes = history.is_secret_by_click and not has_codes
     electors = electors_by_number(election, hides_codes=hides_codes)
     noted_before = outgoing.outgoing_letters(election.book, kind)
-    composer = Composer(call_data, is_over, with_lost_records(election, history))
+    lost = with_lost_records(election, history)
+    composer = Composer(call_data, is_over, lost, history.zone)
     tried_again = not_through(election, history, electors, noted_before)
     run = Run(
         election,

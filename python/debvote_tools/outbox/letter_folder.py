@@ -138,7 +138,7 @@ def picture_of(link: str) -> Markup:
         import segno
     except ModuleNotFoundError:
         return Markup("")
-    return Markup(segno.make_qr(link).svg_inline(border=2, omitsize=True))
+    return Markup(segno.make_qr(link).svg_inline(border=2, light="white", omitsize=True))
 
 
 def rows_to_print(text: str) -> list[list[tuple[str, str]]]:

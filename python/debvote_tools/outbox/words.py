@@ -6,6 +6,7 @@ quotes a letter goes in.
 """
 
 import dataclasses
+import datetime
 from collections.abc import Collection, Iterator, Sequence
 from typing import NamedTuple
 
@@ -119,6 +120,8 @@ class Composer:
     is_over: bool
     # the electors whose last ballot nobody can open
     lost: Collection[str] = ()
+    # in which times are told
+    zone: datetime.tzinfo | None = datetime.UTC
 
     @property
     def language(self) -> Language:
@@ -227,7 +230,7 @@ class Composer:
         # the web host has another time, and can't change this one
         came = letter or fate.came_by
         time = (came and came.read.sent or fate.time).replace(microsecond=0)
-        told = time.astimezone(self.call_data.zone)
+        told = time.astimezone(self.zone)
         return self.language.say(sentence, time=time_in_words(told, self.language))
 
     def more_of(self, fate: Fate) -> Iterator[str]:

@@ -256,11 +256,24 @@ def doubts_of(
         yield Doubt("not closed", "the vote is not closed; close it first")
     if early := early_close(history):
         yield early
+    yield from doubts_of_box(election, history, stops=BOX in stopping)
+    yield from other_castings(election, history, castings)
+    if pending.untold:
+        letters = ", ".join(map(str, pending.untold))
+        # an earlier publication may have had it
+        cure = letters_cure(election, "publish", is_closed=True)
+        advice = f"these letters arrived in time, and wait: {letters}; {cure}"
+        places = {"number": len(pending.untold), "letters": letters}
+        yield Doubt(LETTERS, advice, places, stops=LETTERS in stopping)
+
+
+def doubts_of_box(election: Election, history: History, *, stops: bool) -> Iterator[Doubt]:
+    """Those about the web box; whether one that was not asked since the end stops."""
     if is_unasked_since_end(history):
         ask = election.command("add", "--box")
         advice = f"the web box was not asked since the end: run {ask}"
         # at the end `close --force` has agreed to it
-        yield Doubt(BOX, advice, stops=BOX in stopping)
+        yield Doubt(BOX, advice, stops=stops)
     for (_, kind), act in other_pages(history).items():
         time = act.time.astimezone(history.zone)
         address = act.detail["box"]["at"]
@@ -270,14 +283,6 @@ def doubts_of(
         advice = f"nobody can open ballots that came by the links of {', '.join(lost)}, who have no later ones"
         # the close has agreed to it, or they came after the end
         yield Doubt(LOST, advice, {"number": len(lost)}, stops=False)
-    yield from other_castings(election, history, castings)
-    if pending.untold:
-        letters = ", ".join(map(str, pending.untold))
-        # an earlier publication may have had it
-        cure = letters_cure(election, "publish", is_closed=True)
-        advice = f"these letters arrived in time, and wait: {letters}; {cure}"
-        places = {"number": len(pending.untold), "letters": letters}
-        yield Doubt(LETTERS, advice, places, stops=LETTERS in stopping)
 
 
 def other_castings(election: Election, history: History, castings: Castings) -> Iterator[Doubt]:

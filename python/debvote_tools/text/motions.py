@@ -36,11 +36,6 @@ def words_of(language: str, *, motion: bool) -> Words:
     return {word: ranks for code in codes for word, ranks in zip(WORDS[code], RANKS)}
 
 
-def with_initials(words: Words) -> Words:
-    """The same with the first letter of each, for whoever sees how it is read."""
-    return {**words, **{word[0]: ranks for word, ranks in words.items()}}
-
-
 def words_in(text: str) -> list[str]:
     """What the start of a text has of words, in small letters; an accent is no sign of its own."""
     return re.findall(r"\w+", unicodedata.normalize("NFC", text[:MOST_CHARACTERS]).lower())

@@ -29,11 +29,6 @@ def now() -> datetime.datetime:
     return datetime.datetime.now(datetime.UTC).replace(microsecond=0)
 
 
-def offset_here() -> float:
-    """By how many seconds the clock of this computer is ahead of UTC."""
-    return (now().astimezone().utcoffset() or datetime.timedelta()).total_seconds()
-
-
 def time_in_words(time: datetime.datetime, language: Language = ENGLISH) -> str:
     """A time as `Friday, 4 December 2026, 18:00 (UTC+01:00)`; seconds are left out if they are
     0.

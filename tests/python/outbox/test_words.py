@@ -29,7 +29,7 @@ from debvote_tools.text.ballots import faults_of
 from debvote_tools.text.language import LANGUAGES, language_of
 from debvote_tools.text.rendering import one_line as on_one_line, render_page, resources
 
-from tests.support.at_browser import BROWSER
+from tests.support.at_browser import BROWSER, Window
 from tests.support.calls import CALL, alone
 from tests.support.outgoing import parsed
 
@@ -397,9 +397,8 @@ class CallLetter(unittest.TestCase):
 
 @unittest.skipUnless(BROWSER, "chromium is not installed")
 class Printed(unittest.TestCase):
-    def sides(self, **how: object) -> int:
-        """How many sides letters have in print."""
-        folder = self.enterContext(tempfile.TemporaryDirectory())
+    def page(self, **how: object) -> pathlib.Path:
+        folder = pathlib.Path(self.enterContext(tempfile.TemporaryDirectory()))
         style = resources(PACKAGE, "letter.css")
         language = language_of("en")
         page = render_page(
@@ -412,10 +411,28 @@ class Printed(unittest.TestCase):
             picture_of=picture_of,
             **how,
         )
-        pathlib.Path(folder, "page.html").write_bytes(page)
+        (folder / "page.html").write_bytes(page)
+        return folder / "page.html"
+
+    def sides(self, **how: object) -> int:
+        """How many sides letters have in print."""
+        folder = self.page(**how).parent
         words = f"--headless --no-sandbox --disable-gpu --user-data-dir={folder}/of-browser --print-to-pdf={folder}/page.pdf {folder}/page.html"
         subprocess.run([BROWSER, *words.split()], check=True, capture_output=True)
         return len(re.findall(rb"/Type\s*/Page\b", pathlib.Path(folder, "page.pdf").read_bytes()))
+
+    def test_a_question_is_apart_from_the_boxes_above_it(self):
+        questions = Questions(dict.fromkeys("ABC", POLL), "Meeting")
+        now = vote(questions=questions, quorum_votes=dict.fromkeys("ABC", 1))
+        text = now.call_letter(GUS, is_extension=False).text
+        page = self.page(is_secret=False, letters=[("Gus", rows_to_print(text), None)])
+        with Window(900, 1400) as window:
+            window.open(page)
+            gaps = window.ask(
+                """[...document.querySelectorAll(".option + p:not(.option)")].map((head) =>
+              head.getBoundingClientRect().top - head.previousElementSibling.getBoundingClientRect().bottom)"""
+            )
+        self.assertEqual([gap > 12 for gap in gaps], [True, True], gaps)
 
     def test_no_letter_of_a_secret_vote_is_on_the_back_of_another(self):
         """Whether they are printed on one side of the paper or on both."""

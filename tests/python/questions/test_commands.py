@@ -511,3 +511,20 @@ class Many(QuestionsTest):
         self.assertTrue(lines[first + 13].startswith("m14 (letter 16, written"), said)
         self.assertEqual(lines[first + 14], "Each in words: debvote-election show NAME")
         self.assertIn("\n3 replaced  m01\n4 replaced  m02\n5 counted  m03\n", said)
+
+
+class OfAMotion(QuestionsTest):
+    polls = QuestionsTest.polls | {"A": f"{QuestionsTest.polls['A']}motion = true\n"}
+
+    def test_a_letter_answers_it_where_no_label_is_typed(self):
+        desk = Terminal(self, "desk", "--question", "a")
+        words = "\nIn place of the ranks of a motion: yes, no, abstain, y, n, a.\n"
+        self.assertIn(words, desk.until("Ballot: "))
+        self.assertIn("Euro): No\n", desk.after("ada n\n", ASKED))
+        desk.after("y\n", "Ballot: ")
+        desk.ends("q\n")
+        desk = Terminal(self)
+        self.assertIn(words.replace(", y, n, a", ""), desk.until("Ballot: "))
+        self.assertIn("`ben A n` is no ballot", desk.after("ben A n\n", "Ballot: "))
+        desk.ends("q\n")
+        self.assertEqual(self.lines(), ["ada A 2,1"])
