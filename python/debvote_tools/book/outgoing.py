@@ -212,10 +212,18 @@ WHERE kind = 'receipts' AND (
   )
 )
 """
-# the electors on the list with envelopes after an act, ?2, of which no receipt tells as they are now
+# the electors on the list with envelopes after an act, ?2, of which no receipt tells as they are
+# now. What came before the last receipt of an elector is told, unless they changed since the call
 UNTOLD = f"""
-SELECT DISTINCT elector FROM entered JOIN elector_now USING (elector) WHERE position IS NOT NULL
-AND max(entered.act, coalesce(struck, 0)) > ?2 AND (elector, 'envelope', envelope, struck IS NOT NULL) NOT IN ({TOLD})
+WITH receipt AS (
+  SELECT elector, max(detail ->> 'for_act') AS act FROM sent WHERE kind = 'receipts' AND state = 'written'
+  AND elector NOT IN (SELECT elector FROM elector_state WHERE act > ?1) GROUP BY elector
+), fresh AS MATERIALIZED (
+  SELECT elector, envelope, struck FROM entered LEFT JOIN receipt USING (elector)
+  WHERE max(entered.act, coalesce(struck, 0)) > max(?2, coalesce(receipt.act, 0))
+)
+SELECT DISTINCT elector FROM fresh JOIN elector_now USING (elector) WHERE position IS NOT NULL
+AND (elector, 'envelope', envelope, struck IS NOT NULL) NOT IN ({TOLD} AND elector IN (SELECT elector FROM fresh))
 """
 
 

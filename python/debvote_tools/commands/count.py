@@ -91,8 +91,8 @@ def tell_next(election: Election, sheets: Mapping[str, Sheet]) -> None:
         for one in what_next(election, history)
         if one.step is not Step.COUNT
     ]
-    first = "" if history.is_closed else "This is not the result yet. "
-    tell_aside(f"{first}{next_line(election, due)}")
+    first = "" if history.is_closed else "this is not the result yet; "
+    tell_aside(next_line(election, due, first))
 
 
 def choices_in(sheets: Mapping[str, Sheet]) -> dict[str, Sequence[str]]:

@@ -16,8 +16,8 @@ WAS_REFUSED = "refused"
 
 
 class Unreached(NamedTuple):
-    """An elector, why the call has not reached them, by what came last, what the server said, and by
-    which act that is known.
+    """An elector, why the call has not reached them, by what came last, what the server said, and
+    by which act that is known.
     """
 
     elector: Elector

@@ -1,7 +1,7 @@
 """What comes next in an election: its steps as values, of which each command prints the first.
 
 A step is due by the book, by what this machine noted, and by the clock. Each has an end that the
-secretary can reach: an act, an asking of the web box, or that she says it is done (`status --done`).
+secretary can reach: an act, an asking of the web box, or that she says so (`status --done`).
 """
 
 import contextlib
@@ -254,10 +254,10 @@ def upload(now: Now) -> Iterator[Due]:
 
 def letters(now: Now) -> Iterator[Due]:
     """Receipts and reminders that were written; and what all electors get."""
-    if unsent := unsent_receipts(now):
-        yield Due(Step.LETTERS, len(unsent), "receipts")
-    if unsent := unsent_reminders(now):
-        yield Due(Step.LETTERS, len(unsent), "reminders")
+    if number := len(unsent_receipts(now)):
+        yield Due(Step.LETTERS, number, "receipts")
+    if number := len(unsent_reminders(now)):
+        yield Due(Step.LETTERS, number, "reminders")
     for kind, for_act in now.for_acts():
         if left := left_of(now, kind, for_act):
             number = sum(bool(address_in(elector.addresses)) for elector in left)
@@ -276,18 +276,16 @@ def unsent_receipts(now: Now) -> list[int]:
     ]
 
 
-def unsent_reminders(now: Now) -> list[int]:
+def unsent_reminders(now: Now) -> set[int]:
     """The electors who have not voted since. A run of another day is a new one."""
     runs = [] if now.is_over else now.runs_of_reminders
     since = [act.number - 1 for act in runs if now.time - act.time < DAY]
     if not since:
-        return []
+        return set()
     after = max(since[0], now.done_until(Step.LETTERS))
     counting = queries.what_counts(now.book)
     silent = {elector.number for elector in now.electors if elector.name not in counting}
-    return [
-        elector for elector, _ in outgoing.unsent(now.book, "reminders", after) if elector in silent
-    ]
+    return silent.intersection(dict(outgoing.unsent(now.book, "reminders", after)))
 
 
 def left_of(now: Now, kind: str, for_act: int) -> list[Elector]:
@@ -379,17 +377,17 @@ def ties_of(election: Election, history: History) -> dict[str, Sequence[str]]:
 
 # ---- in words
 def tell_next(election: Election, *taken: Step, say: Callable[..., None] = tell) -> None:
-    """The last line of a command. `taken` are steps that it takes itself, and that the book does not
-    keep.
+    """The last line of a command. `taken` are steps that it takes itself, and that the book does
+    not keep.
     """
     due = what_next(election, election.history())
     say(next_line(election, [one for one in due if one.step not in taken]))
 
 
-def next_line(election: Election, due: Sequence[Due]) -> str:
+def next_line(election: Election, due: Sequence[Due], before: str = "") -> str:
     """The next step; with those before it that may be done already."""
     first = next(number for number, one in enumerate(due, start=1) if one.step not in BESIDE)
-    return f"Next: {'; then '.join(in_words(election, one) for one in due[:first])}"
+    return f"Next: {before}{'; then '.join(in_words(election, one) for one in due[:first])}"
 
 
 def words_of(election: Election, *steps: Step) -> list[str]:

@@ -910,6 +910,10 @@ class OnTheDisk(BookTest):
             note.make_ready()
             note.put(machine_note.Note(act, hashlib.sha256(b"").hexdigest()), is_moved=is_moved)
             self.assertEqual(note.read().act, stands)
+            # what is done stays noted, but not of another book
+            self.assertEqual(note.read().done, {"upload": 3} if stands == 5 else {})
+            if stands == 3:
+                note.put_done("upload", 3)
         # each has the room of the longest
         size = note.file.stat().st_size
         note.make_ready()

@@ -147,9 +147,10 @@ class Model:
     # the letters that a close or a publication left waiting; and what receipts have told
     left: set[int] = dataclasses.field(default_factory=set)
     receipts: set[tuple[str, str, int, bool]] = dataclasses.field(default_factory=set)
-    # what a page tells, of an undo its envelopes; and the earlier results
+    # what a page tells, of an undo its envelopes; and the earlier results, each with how many closes
+    # were before it
     told: list[str | list[Envelope]] = dataclasses.field(default_factory=list)
-    earlier: list[str] = dataclasses.field(default_factory=list)
+    earlier: list[tuple[int, str]] = dataclasses.field(default_factory=list)
 
     # ---- what is in the book
     def kept(self, label: str | None = None, *, late: bool = False) -> list[Envelope]:
@@ -394,6 +395,11 @@ class Model:
         self.closes.append(self.now)
         self.is_closed = True
         self.acts += 1
+
+    def replaced(self) -> list[str]:
+        """The earlier results that a page tells above its own: ballots may have changed since."""
+        closes = len(self.closes) if self.is_closed else len(self.closes) + 1
+        return [told for before, told in self.earlier if before < closes]
 
     def all_told(self) -> list[str]:
         """The acts that a page tells: of an undo what is lost by it; and how many lines came after the end, and count."""
@@ -782,10 +788,9 @@ class Played:
         left = ", ".join(OPTIONS[int(number) - 1] for number in numbers)
         checksum = hashlib.sha256(self.read(f"{name}/SHA256SUMS")).hexdigest()
         how = f"{'A tie' if ended.status else 'Winner'}: {left}."
-        model.earlier.append(
-            f"A result was published, whose SHA256SUMS has the checksum {checksum}. {how}"
-        )
-        model.told.append(model.earlier[-1])
+        told = f"A result was published, whose SHA256SUMS has the checksum {checksum}. {how}"
+        model.earlier.append((len(model.closes), told))
+        model.told.append(told)
         if model.is_closed:
             model.leave()
         model.acts += 1
@@ -827,7 +832,7 @@ class Played:
         self.assertEqual([text for text in in_letter if text not in letter], [])
         before = "<p>This result takes the place of an earlier one. .*?: (.*?)</p>"
         earlier = re.findall(before, re.sub("</?(?:code|bdi)>", "", page), re.S)
-        self.assertEqual(earlier, model.earlier)
+        self.assertEqual(earlier, model.replaced())
         self.assertEqual(letter.count("of an earlier one."), len(earlier))
         late = len(model.kept(late=True))
         self.assertEqual(

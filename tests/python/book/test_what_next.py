@@ -133,7 +133,8 @@ class Followed:
             "number": number,
             "time": f"{time:%a, %d %b %Y %H:%M:%S} +0000",
         }
-        self.letters.append(letters.marked(name, f"{text}\n", **how))
+        # with the own mark of now, which stays in it
+        self.letters.append(self.of_this_vote(letters.marked(name, f"{text}\n", **how)))
         self.touched.add(name)
         self.write("mail", letters.mailbox(*self.letters))
         self.done("add", "--yes", "mail")
@@ -174,7 +175,7 @@ class Followed:
         said = self.done("status").output
         for place in itertools.count():
             self.assertLess(place, MOST, said)
-            [following] = re.findall("(?m)^(?:This is .*)?Next: (.*)$", said)
+            [following] = re.findall("(?m)^Next: (.*)$", said)
             if following.startswith(("until ", "nothing is left")):
                 break
             words = shlex.split(COMMAND.search(following)[1])

@@ -35,7 +35,7 @@ class Count(CalledTest):
     def test_an_option_that_has_won(self):
         self.adds(WON)
         before = self.contents()
-        said = "This is not the result yet. Next: debvote-election close, when the vote is over; until then"
+        said = "Next: this is not the result yet; debvote-election close, when the vote is over; until then"
         self.assert_counted("", 0, said)
         self.assertEqual(self.contents(), before)
         self.done("close")
@@ -48,7 +48,7 @@ class Count(CalledTest):
         cast = "--cast-by WHO --cast-on DATE"
         choose = "it is a tie between 'At the lake', Hall; the holder of the casting vote chooses one of them: "
         choose += f"debvote-election publish --casting 'At the lake' {cast} or debvote-election publish --casting Hall {cast}\n"
-        self.assert_counted("", 1, "This is not the result yet. Next: debvote-election close")
+        self.assert_counted("", 1, "Next: this is not the result yet; debvote-election close")
         self.done("close")
         self.adds("fay 1,2,4,3\n")
         first = "Next: debvote-election publish, and debvote-election letters --send, so that everybody sees the tie before the casting vote; then "
@@ -99,7 +99,7 @@ class Count(CalledTest):
         self.adds("ada 1,2,4,3\n")
         ended = self.election("count --casting 'At the lake'")
         note = "Note: it is no tie, so no casting vote decides it; what --casting says of it is not told.\n"
-        self.assertEqual((ended.status, ended.faults.partition("This is ")[0]), (0, note))
+        self.assertEqual((ended.status, ended.faults.partition("Next: ")[0]), (0, note))
 
     def test_output_that_nobody_reads_to_its_end(self):
         """It ends quietly, with the status of an output that failed, as that of debvote."""

@@ -479,7 +479,7 @@ class Moved(AskedTest):
         self.assertIn(note, said)
         # nothing lies at the new address yet
         following = f"\nNext: upload the files of call to {self.host.at}, vote.php too; then debvote-election add --box; then "
-        self.assertIn(f"\nNext: 1 receipt is not written: ", said)
+        self.assertIn("\nNext: 1 receipt is not written: ", said)
         self.say_done()
         self.assertIn(following, self.told("call"))
         self.upload()

@@ -167,7 +167,7 @@ class Entered(HeldTest):
         self.assertEqual(self.acts()[-1], ("enter", {"letters": [1], "lines": [3]}))
         self.tells("held 1", "It was entered.")
         # one that waits stops no count before the close
-        self.assertIn("This is not the result yet", self.election("count").faults)
+        self.assertIn("this is not the result yet", self.election("count").faults)
         said = "letter 1: its ballot{} was entered; nothing was changed: {}".format
         self.stops("1 --enter --yes", said(" of ada", "there is nothing to do"))
         for words in ("--set-aside", "--wait"):

@@ -64,6 +64,11 @@ class SecretCall(elections.ElectionTest):
         for answer in ("yes", "no"):
             said = self.done(f"call --box {HTTPS} --slips {answer}").output
             self.assertIn("Make a copy of the book now: debvote-election backup FILE.", said)
+            handed = (
+                "\nPrint private/slips.html, cut the slips out, and give each elector their own.\n"
+            )
+            none = "\nNo slips: nobody can find their ballot in the result.\n"
+            self.assertEqual((handed in said, none in said), (answer == "yes", answer == "no"))
             page = " ".join(self.read("call/index.html").decode().split())
             for part, by in shown.items():
                 self.assertEqual(part in page, by == answer, part)

@@ -131,6 +131,14 @@ class Sending(SendTest):
             self.assertEqual(self.server.addresses()[-1], f"{name}@club.example")
             self.assert_none_is_due("call")
 
+    def test_who_has_voted_needs_no_call_on_paper(self):
+        self.change_roll(ALL[6], "")
+        self.assert_sent("call")
+        self.assertIn("Get the call printed (1):\n  gus\n", self.told("status"))
+        self.add_lines(f"gus {RANKS}")
+        self.assertNotIn("Get the call printed", self.told("status"))
+        self.assertEqual(self.numbers()["printed"], ["gus"])
+
     def test_who_got_no_letter_is_named(self):
         """One whose address changed since, and those whom a run that was cut off did not come to;
         not who gets it printed.

@@ -2,6 +2,7 @@
 
 import email
 import json
+import re
 
 from tests.support.letters import TEN, letter
 from tests.support.outgoing import parsed
@@ -442,7 +443,9 @@ class Told(QuestionsTest):
         said = self.told("status")
         self.assertIn("Question A: Raise the fee to 72 Euro: 2 electors answered\n", said)
         self.assertIn("Question B: The chair of the board: 1 elector answered\n", said)
-        self.assertIn("Question C: A new roof: 0 electors answered\n", said)
+        # one line for equal quorums
+        self.assertIn("Question C: A new roof: 0 electors answered\nQuorum: 2 votes (1Q)", said)
+        self.assertEqual(said.count("Quorum: "), 1)
         # ben has a ballot, but none of the question whose answer was refused
         self.assertIn(
             "  envelope 4: ben B 1,2\n    bad rank count: 2 ranks, the poll has 3 options\n", said
@@ -528,3 +531,15 @@ class OfAMotion(QuestionsTest):
         self.assertIn("`ben A n` is no ballot", desk.after("ben A n\n", "Ballot: "))
         desk.ends("q\n")
         self.assertEqual(self.lines(), ["ada A 2,1"])
+
+
+class Quorums(QuestionsTest):
+    polls = {
+        label: poll.replace("quorum = 1", f"quorum = {int(label != 'B')}")
+        for label, poll in QuestionsTest.polls.items()
+    }
+    poll = "".join(polls.values())
+
+    def test_each_is_told(self):
+        found = re.findall(r"(?m)^Question (.).*\n  Quorum: (\w+)", self.told("status"))
+        self.assertEqual(found, [("A", "2"), ("B", "none"), ("C", "2")])

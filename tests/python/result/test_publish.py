@@ -465,7 +465,9 @@ class OfOpenVotes(OfElections):
         self.assertEqual(kinds, ["no ballot", "mostly refused", "not closed"])
         self.add("ada-lovelace 1,2,3\n")
         self.say("close")
-        self.say(*output.split()[-2:])
+        self.say_done()
+        self.assertIn("Next: debvote-election publish result-2\n", self.election("count").faults)
+        self.say("publish", "result-2")
         # half of the lines are refused, and nothing stops: the reason is not told
         self.remove()
         self.force(because="nothing")
