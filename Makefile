@@ -1,9 +1,8 @@
 # What a developer calls, by short names. Each target calls what is there; tests/all needs no make.
-.PHONY: help try office build check test case edit polls claim all deb
+.PHONY: help try office build check test case edit polls claim all
 
 N = 500
 SEED = 1
-TO = /tmp/debvote-package
 
 help: ## list these targets
 	@sed -n 's/^\([a-z]*\):.*## /make \1\t/p' Makefile | expand -t 12
@@ -40,6 +39,3 @@ claim: ## make docs/claim.html from the sources, what one believes when one beli
 
 all: ## prove everything, try all edits, and run all tests: tests/all
 	@tests/all
-
-deb: ## build the Debian package of the program that make build proved in TO=/tmp/debvote-package
-	@packaging/deb "$(TO)"

@@ -112,12 +112,6 @@ class History(NamedTuple):
         """The acts that wrote letters of the call."""
         return [act for act in self.since_call("letters out") if act.detail["kind"] == "call"]
 
-    @property
-    def is_call_written(self) -> bool:
-        """Whether letters of the call were written since it, or since its last extension."""
-        last = self.since_call("call", "extend")[-1].number
-        return any(run.number > last for run in self.runs_of_call)
-
     def is_over(self, time: datetime.datetime) -> bool:
         """Whether nobody is asked to vote any more, also if it was opened again."""
         return bool(self.closes) or (self.until is not None and time > self.until)

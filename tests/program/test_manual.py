@@ -151,6 +151,8 @@ class HelpTest(expecting.Expecting):
         log = (ROOT / "CHANGELOG.md").read_text()
         [newest, *_] = re.findall(r"(?m)^## (\d[\d.]*), \d{4}-\d\d-\d\d$", log)
         self.expect("CHANGELOG.md: the newest version", f"debvote {newest}", version)
+        package = (ROOT / "debian" / "changelog").read_text().partition(")")[0]
+        self.expect("debian/changelog", package, version.replace(" ", " ("))
         for program in (ELECTION, PUBLISH):
             wanted = f"{program.name} {version.removeprefix('debvote ')}\n"
             for word in ("--version", "-V"):

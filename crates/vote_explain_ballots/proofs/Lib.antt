@@ -3,3 +3,4 @@ pub mod Scanning
 pub mod Listing
 pub mod BoxReplies
 pub mod Counting
+pub mod Ballots

@@ -1,15 +1,17 @@
 //! What is wrong with the lines of a ballot file, as a text.
-ghost use Rattle.std.specs.Prelude.{◌≡◌, [], IfOk, drop, length, slice_index_or, string_bytes};
+ghost use Rattle.std.specs.Prelude.{◌≡◌, [], IfOk, drop, length, map, slice_index_or, string_bytes};
 ghost use Rattle.vote_poll.specs.Options.{IsOption};
 ghost use Rattle.vote_poll.specs.PollContent.{last_in_time, option_count};
+ghost use Rattle.vote_poll.specs.Readings.{readings};
 ghost use Rattle.vote_poll_text.specs.Adding.{Adds};
-ghost use Rattle.vote_steps.specs.HeldLines.{HoldsLines};
+ghost use Rattle.vote_steps.specs.HeldLines.{AreCastInOrder, HoldsLines};
 ghost use Rattle.vote_steps.specs.LastBallots.{refused_count};
 ghost use Rattle.vote_explain_ballots.specs.Explained.{AreTotals, IsExplained, example_text, has_bad_line, numbered, numbers_text, order_words, own_ballot, own_options, reads_ballot, warnings_text};
 ghost use Rattle.vote_explain_ballots.specs.Refusals.{EachRefusalIsListed, RefusedAsBySteps};
 
 use crate::MOST_REMARK;
 use crate::findings::Findings;
+use crate::near_names::roll_of;
 use crate::tables::push_table;
 use crate::whole_file::push_file_text;
 use std::alloc::{AllocError, Global};
@@ -108,11 +110,14 @@ fn push_order(text: &mut String, ballot: &str, options: &str) -> Result<(), Allo
 #[derive(Drop)]
 pub(crate) struct CastFile<'f> {
     pub(crate) poll: &'f Poll,
+    /// The names on its roll.
+    pub(crate) roll: Vec<&'f [u8]>,
     pub(crate) lines: &'f Lines<'f>,
     pub(crate) ballot_box: &'f BallotBox,
     /// Whether it can be ballots.
     pub(crate) is_text: bool,
     totals: Totals,
+    pub(crate) ghost named: { map (λ name. name.now) roll.items ≡ poll.now.roll },
     ghost counted: { AreTotals poll.now lines.now totals },
 }
 
@@ -135,12 +140,14 @@ impl<'f> CastFile<'f> {
     /// Adds what is said before the lines, if it can be ballots: that they look like a table, if they do; and that lines are counted, if
     /// the poll has a last envelope, the file has a line with its number, and a line is refused that is not late.
     fn push_warnings(&self, alloc: Global, text: &mut String) -> Result<(), AllocError>
+        requires held { HoldsLines self.now.poll.now self.now.lines.now self.now.ballot_box.now }
+        requires in_order { AreCastInOrder (readings self.now.poll.now self.now.lines.now) self.now.ballot_box.now.steps }
         ensures { Adds result text.old (warnings_text self.now.is_text self.now.poll.now self.now.lines.now) text.new }
     {
         if !self.is_text {
             return Ok(());
         }
-        push_table(alloc, text, self.poll, self.lines)?;
+        push_table(alloc, text, self)?;
         let Some(last) = self.poll.last_envelope() else {
             return Ok(());
         };
@@ -197,6 +204,7 @@ pub fn explain_ballots(
     let is_text = push_file_text(alloc, &mut findings.text, lines, text, steps, file)?;
     let ballots = CastFile {
         poll,
+        roll: roll_of(alloc, poll)?,
         lines,
         ballot_box: &ballot_box,
         is_text,

@@ -1,12 +1,17 @@
 //! What looks like a table, whose columns may stand in another order than the options.
 ghost use Rattle.std.specs.Prelude.{◌≡◌, ◌≤◌, ◌==◌, ◌&&◌, ◌||◌, not, [], IfOk, false, filter, length, option_map, unwrap_or};
-ghost use Rattle.std.specs.List.{list_any};
+ghost use Rattle.std.specs.List.{list_all, list_any};
+ghost use Rattle.vote_poll.specs.Readings.{readings};
 ghost use Rattle.vote_poll_text.specs.Adding.{Adds};
-ghost use Rattle.vote_explain_ballots.specs.Tables.{first_word, has_columns, has_each_rank, has_even_ranks, has_few_ranks, has_head, has_heads, is_column_sign, is_even, is_head, is_head_sign, is_of_ranks, is_parted_by, is_rank, is_sign, later_words, may_be_head, names_no_elector, number_of, rank_count, table_text, words_of};
+ghost use Rattle.vote_steps.specs.HeldLines.{AreCastInOrder, HoldsLines};
+ghost use Rattle.vote_explain_ballots.specs.Tables.{first_word, has_cells, has_columns, has_each_rank, has_even_ranks, has_few_ranks, has_head, has_heads, is_column_sign, is_even, is_head, is_head_sign, is_joining, is_near_name, is_of_cells, is_of_ranks, is_parted_by, is_quote, is_quoted_rank, is_rank, is_row_of_heads, is_sign, later_words, may_be_head, names_nobody, number_of, rank_count, table_text, words_of};
 
+use crate::explain::CastFile;
+use crate::findings::refusing_at;
+use crate::near_names::most_edits;
 use std::alloc::{AllocError, Global};
-use vote_hints::unmarked;
-use vote_poll::{Lines, MAX_OPTIONS, Poll};
+use vote_hints::{are_within, unmarked};
+use vote_poll::{Lines, MAX_OPTIONS, Poll, each_line_is_read};
 
 /// Whether a byte is a sign that parts columns.
 fn is_column_sign(byte: u8) -> bool
@@ -57,6 +62,16 @@ fn number_of(word: &[u8]) -> usize
         }
         _ => 0,
     }
+}
+
+/// Whether a word is a rank in quotation marks.
+fn is_quoted_rank(word: &[u8]) -> bool
+    ensures { result ≡ is_quoted_rank word.now }
+{
+    matches!(
+        word,
+        [b'"', b'0'..=b'9' | b'-', b'"'] | [b'"', b'0'..=b'9', b'0'..=b'9', b'"']
+    )
 }
 
 /// How many words behind the first of a line are ranks.
@@ -134,6 +149,35 @@ fn has_columns(options: usize, line: &[u8], sign: u8) -> bool
     options <= columns && columns <= options + 4
 }
 
+/// Whether a word only joins others, so that it heads no column.
+fn is_joining(word: &[u8]) -> bool
+    ensures { result ≡ is_joining word.now }
+{
+    match word {
+        b"and" | b"by" | b"from" | b"of" | b"the" => true,
+        b"das" | b"dem" | b"der" | b"des" | b"die" | b"und" | b"vom" | b"von" => true,
+        b"del" | b"du" | b"las" | b"les" | b"los" => true,
+        _ => false,
+    }
+}
+
+/// Whether a word of a line only joins others.
+fn has_joining(line: &[u8]) -> bool
+    ensures { result ≡ list_any is_joining (words_of line.now) }
+{
+    let parts = line.split(|byte| is_sign(*byte));
+    let mut words = parts.filter(|word| !word.is_empty());
+    words.any(|word| is_joining(word))
+}
+
+/// Whether a line has as many words as a head of words alone.
+fn is_row_of_heads(options: usize, line: &[u8]) -> bool
+    requires { options ≤ MAX_OPTIONS }
+    ensures { result ≡ is_row_of_heads options line.now }
+{
+    !has_head_sign(line) && word_count(line) == options + 1 && !has_joining(line)
+}
+
 /// Whether a line has as many columns as a head.
 fn has_heads(options: usize, line: &[u8]) -> bool
     requires { options ≤ MAX_OPTIONS }
@@ -144,7 +188,7 @@ fn has_heads(options: usize, line: &[u8]) -> bool
         | has_columns(options, line, b'\t')
         | has_columns(options, line, b'|')
         | has_columns(options, line, b'/');
-    has_columns | (!has_head_sign(line) & (word_count(line) == options + 1))
+    has_columns || is_row_of_heads(options, line)
 }
 
 /// Whether at most half of the words behind the first of a line are ranks.
@@ -155,47 +199,87 @@ fn has_few_ranks(line: &[u8]) -> bool
     ranks <= words.saturating_sub(ranks)
 }
 
-/// Whether a line has the words of a head where it stands, which may be below a line of ranks.
-fn may_be_head(options: usize, is_below: bool, line: &[u8]) -> bool
-    requires { options ≤ MAX_OPTIONS }
+/// Whether a line, of which is given whether it is one of ranks, has the words of a head where it stands, which may be below a line of
+/// ranks.
+fn may_be_head(options: usize, is_below: bool, line: &[u8], are_ranks: bool) -> bool
+    requires options { options ≤ MAX_OPTIONS }
+    requires ranks { are_ranks ≡ is_of_ranks line.now }
     ensures { result ≡ may_be_head options is_below line.now }
 {
-    if is_of_ranks(line) {
+    if are_ranks {
         return !is_below && has_each_rank(options, line);
     }
-    !(is_below & (options == 2)) & has_few_ranks(line) & has_heads(options, line)
+    !(is_below & (options == 2)) && has_few_ranks(line) && has_heads(options, line)
 }
 
-/// Whether the first word of a line, in small letters, is the name of no elector.
-fn names_no_elector(alloc: Global, poll: &Poll, line: &[u8]) -> Result<bool, AllocError>
-    ensures { IfOk result (λ none. none ≡ names_no_elector poll.now line.now) }
+/// Whether a name on the roll is so near to a word that it may be meant.
+#[tactic(auto, using(crate::proofs::Words::places))]
+fn is_near_name(poll: &Poll, word: &[u8]) -> bool
+    ensures { result ≡ is_near_name poll.now.roll word.now }
 {
-    match first_word(line) {
-        Some(word) => Ok(poll.voter_of(&word.to_ascii_lowercase(alloc)?).is_none()),
-        None => Ok(poll.voter_of(b"").is_none()),
+    let edits = most_edits(word);
+    for voter in 0..poll.electors() {
+        let Some(name) = poll.voter_name(voter) else {
+            unreachable!()
+        };
+        if are_within(edits, word, name) {
+            return true;
+        }
     }
+    false
 }
 
-/// Whether a line is a head where it stands, which may be below a line of ranks.
-fn is_head(alloc: Global, poll: &Poll, is_below: bool, line: &[u8]) -> Result<bool, AllocError>
+/// Whether the first word of a line, in small letters, is the name of no elector; of a line of ranks, which may be a ballot with a wrong
+/// name, nor is a name near to it.
+fn names_nobody(
+    alloc: Global,
+    poll: &Poll,
+    line: &[u8],
+    are_ranks: bool,
+) -> Result<bool, AllocError>
+    requires { are_ranks ≡ is_of_ranks line.now }
+    ensures { IfOk result (λ nobody. nobody ≡ names_nobody poll.now line.now) }
+{
+    let word = first_word(line).unwrap_or(b"").to_ascii_lowercase(alloc)?;
+    let is_elector = poll.voter_of(&word).is_some();
+    Ok(!is_elector && !(are_ranks && is_near_name(poll, &word)))
+}
+
+/// Whether a line, of which is given whether it is one of ranks, is a head where it stands, which may be below a line of ranks.
+fn is_head(
+    alloc: Global,
+    poll: &Poll,
+    is_below: bool,
+    line: &[u8],
+    are_ranks: bool,
+) -> Result<bool, AllocError>
+    requires { are_ranks ≡ is_of_ranks line.now }
     ensures { IfOk result (λ is. is ≡ is_head poll.now is_below line.now) }
 {
-    Ok(may_be_head(poll.options() as usize, is_below, line) && names_no_elector(alloc, poll, line)?)
+    let may_be = may_be_head(poll.options() as usize, is_below, line, are_ranks);
+    Ok(may_be && names_nobody(alloc, poll, line, are_ranks)?)
 }
 
-/// Whether a line is a head where it stands, and a line of ranks below it.
+/// Whether a line is a head where it stands, and a line of ranks below it. A line that is not refused is a ballot, and so no head: below a
+/// line of ranks it is not looked at before a head was found.
 #[tactic(auto, using(crate::proofs::Words::places))]
-fn has_head(alloc: Global, poll: &Poll, lines: &Lines<'_>) -> Result<bool, AllocError>
-    ensures { IfOk result (λ has. has ≡ has_head poll.now false lines.now) }
+fn has_head(alloc: Global, file: &CastFile<'_>) -> Result<bool, AllocError>
+    requires held { HoldsLines file.now.poll.now file.now.lines.now file.now.ballot_box.now }
+    requires in_order { AreCastInOrder (readings file.now.poll.now file.now.lines.now) file.now.ballot_box.now.steps }
+    ensures { IfOk result (λ has. has ≡ has_head file.now.poll.now false file.now.lines.now) }
 {
+    each_line_is_read();
     let (mut is_below, mut has_one) = (false, false);
-    for place in 0..lines.len() {
-        let line = lines.line(place);
+    for place in 0..file.lines.len() {
+        let line = file.lines.line(place);
+        if is_below && !has_one && refusing_at(file.ballot_box.steps(), place).is_none() {
+            continue;
+        }
         let is_of_ranks = is_of_ranks(line);
         if has_one & is_of_ranks {
             return Ok(true);
         }
-        has_one = has_one | is_head(alloc, poll, is_below, line)?;
+        has_one = has_one | is_head(alloc, file.poll, is_below, line, is_of_ranks)?;
         is_below = is_below | is_of_ranks;
     }
     Ok(false)
@@ -218,16 +302,53 @@ fn has_even_ranks(lines: &Lines<'_>) -> bool
     2 <= number
 }
 
-/// Adds whether a file with these lines looks like a table.
+/// Whether a quotation mark is in a line: it is looked for first, since most lines have none.
+fn has_quote(line: &[u8]) -> bool
+    ensures { result ≡ list_any is_quote line.now }
+{
+    line.iter().any(|byte| *byte == b'"')
+}
+
+/// Whether all words behind the first of a line are ranks in quotation marks.
+fn has_only_quoted(line: &[u8]) -> bool
+    ensures { result ≡ list_all is_quoted_rank (later_words line.now) }
+{
+    let parts = line.split(|byte| is_sign(*byte));
+    let words = parts.filter(|word| !word.is_empty());
+    words.skip(1).all(|word| is_quoted_rank(word))
+}
+
+/// Whether a line has two ranks or more in quotation marks behind its first word, and no other words.
+fn is_of_cells(line: &[u8]) -> bool
+    ensures { result ≡ is_of_cells line.now }
+{
+    has_quote(line) && word_count(line) > 2 && has_only_quoted(line)
+}
+
+/// Whether two lines or more are of cells.
+#[tactic(auto, using(crate::proofs::Words::places))]
+fn has_cells(lines: &Lines<'_>) -> bool
+    ensures { result ≡ has_cells lines.now }
+{
+    let mut number = 0usize;
+    for place in 0..lines.len() {
+        number = number.saturating_add(usize::from(is_of_cells(lines.line(place))));
+    }
+    2 <= number
+}
+
+/// Adds whether a file looks like a table.
 pub(crate) fn push_table(
     alloc: Global,
     text: &mut String,
-    poll: &Poll,
-    lines: &Lines<'_>,
+    file: &CastFile<'_>,
 ) -> Result<(), AllocError>
-    ensures { Adds result text.old (table_text poll.now lines.now) text.new }
+    requires held { HoldsLines file.now.poll.now file.now.lines.now file.now.ballot_box.now }
+    requires in_order { AreCastInOrder (readings file.now.poll.now file.now.lines.now) file.now.ballot_box.now.steps }
+    ensures { Adds result text.old (table_text file.now.poll.now file.now.lines.now) text.new }
 {
-    if !(has_head(alloc, poll, lines)? || has_even_ranks(lines)) {
+    let lines = file.lines;
+    if !(has_head(alloc, file)? || has_even_ranks(lines) || has_cells(lines)) {
         return Ok(());
     }
     text.push_str(

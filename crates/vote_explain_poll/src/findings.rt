@@ -98,6 +98,10 @@ fn push_quorum(words: &mut String, electors: usize) -> Result<(), AllocError>
 const A_RATIO: &str =
     "; ratio S: S votes for it against each vote for the default: 1 for half, 2 for two thirds, 3 for three quarters";
 
+/// What wordings there are.
+const A_WORDING: &str =
+    "at_least or more_than: with a ratio S above 1, at_least is met by S votes for it against each vote for the default, more_than only by more";
+
 /// What a last envelope is.
 const A_LAST_ENVELOPE: &str = ": the number of the last line of the ballot file that is in time";
 
@@ -168,8 +172,9 @@ fn push_kind(words: &mut String, key: PollKey, value: &Value) -> Result<(), Allo
 /// Adds what belongs at a key, whose value is of the wrong kind or missing; nothing of a quorum.
 fn push_wanted(words: &mut String, key: PollKey) -> Result<(), AllocError> {
     match key {
-        PollKey::Title | PollKey::DefaultOption => words.push_str("; a text is wanted"),
-        PollKey::Wording => words.push_str("; a text is wanted: at_least or more_than"),
+        PollKey::Title => words.push_str("; a text is wanted"),
+        PollKey::DefaultOption => words.push_str("; the name of the default option is wanted"),
+        PollKey::Wording => write!(words, "; a text is wanted: {A_WORDING}"),
         PollKey::Options | PollKey::Roll => words.push_str("; a list of texts is wanted"),
         PollKey::Ratios => write!(
             words,
@@ -326,7 +331,7 @@ impl<'f> Hints<'f> {
             ),
             PollFault::Wording => {
                 push_quoted(words, keys.wording.unwrap_or(""))?;
-                words.push_str(" found; a wording is at_least or more_than")
+                write!(words, " found; a wording is {A_WORDING}")
             }
             PollFault::Memory => words.push_str("out of memory"),
         }

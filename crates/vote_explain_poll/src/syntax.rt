@@ -112,6 +112,17 @@ fn push_both_places(words: &mut String, before: &[u8], right: &[u8]) -> Result<(
     write!(words, " is in line {first} and in line {second}")
 }
 
+/// Adds what the format has in place of what `right` begins with, in a file in which this stands before: a comment of C, or JSON.
+fn push_other_format(words: &mut String, before: &[u8], right: &[u8]) -> Result<(), AllocError> {
+    match right {
+        [b'/', b'/' | b'*', ..] => words.push_str("; a comment begins with #"),
+        [b'{', ..] if before.trim_ascii().is_empty() => words.push_str(
+            "; { begins JSON: a line of TOML is a key, = and its value",
+        ),
+        _ => Ok(()),
+    }
+}
+
 /// What carriage returns in place of line feeds are.
 const OLD_MAC: &str =
     ": carriage returns end the lines, as on old Macs, and not line feeds: this can be mended";
@@ -133,6 +144,7 @@ fn push_facts(
         return push_both_places(words, before, right);
     }
     push_sign(words, last_line(before), right)?;
+    push_other_format(words, before, right)?;
     match after.trim_ascii() {
         [] => push_unfinished(words, text),
         _ => Ok(()),

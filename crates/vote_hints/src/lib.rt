@@ -4,7 +4,8 @@
 //!   [`push_hint_line`] adds one, and [`push_character`] names a character by one.
 //! - [`push_excerpt`] adds a line of a file, and a mark below a place in it.
 //! - [`file_kind`] says what a file is that is no plain text, and [`unmarked`] leaves out a byte-order mark.
-//! - [`nearest_names`] finds the names that are nearest to one that is not known (`specs/Near.antt`).
+//! - [`nearest_names`] finds the names that are nearest to one that is not known (`specs/Near.antt`), and [`are_within`] says whether few
+//!   edits lead from one name to another.
 //! - [`push_mending`] appends how to mend a file, with a shell command if single quotes can hold the file's name. `specs/Commands.antt`
 //!   says which words.
 #![tactic(auto)]
@@ -24,7 +25,7 @@ pub use characters::push_character;
 pub use commands::push_mending;
 pub use excerpts::push_excerpt;
 pub use file_kinds::{file_kind, unmarked};
-pub use near::nearest_names;
+pub use near::{are_within, nearest_names};
 use std::alloc::AllocError;
 use vote_poll_text::push_shown;
 

@@ -14,14 +14,16 @@ CREATE TEMP VIEW late AS SELECT envelope FROM entered WHERE late AND struck IS N
 CREATE TEMP VIEW came_valid AS SELECT * FROM entered WHERE NOT late AND answer IS NULL;
 
 -- What an `undo` took back. With the lines of its act it never came; but of ballots in time everybody is told that are lost: whose
--- electors have no later ballot with the same ranks, or only such as one replaces that was taken back, too, and which they had replaced.
+-- electors have no later ballot with the same ranks; or of the last one of an act, only such as one replaces which it had replaced.
 CREATE TEMP VIEW taken_back AS SELECT envelope FROM struck WHERE act IN (SELECT act FROM act WHERE name = 'undo');
 
 CREATE TEMP VIEW lost AS
   SELECT envelope FROM came_valid AS gone WHERE envelope IN taken_back AND NOT EXISTS (
-    SELECT 1 FROM valid AS again WHERE elector = gone.elector AND envelope > gone.envelope AND line = gone.line AND NOT EXISTS (
-      SELECT 1 FROM valid JOIN came_valid AS earlier USING (elector, line) WHERE elector = gone.elector AND line <> gone.line
-        AND valid.envelope > again.envelope AND earlier.envelope < gone.envelope AND earlier.envelope IN taken_back
+    SELECT 1 FROM valid AS again WHERE elector = gone.elector AND envelope > gone.envelope AND line = gone.line AND (
+      EXISTS (SELECT 1 FROM came_valid WHERE elector = gone.elector AND +struck = gone.struck AND envelope > gone.envelope) OR NOT EXISTS (
+        SELECT 1 FROM valid JOIN came_valid AS earlier USING (elector, line) WHERE elector = gone.elector AND line <> gone.line
+          AND valid.envelope > again.envelope AND earlier.envelope < gone.envelope AND earlier.envelope IN taken_back
+      )
     )
   );
 

@@ -14,6 +14,7 @@ are those of `argparse`. What a class inherits comes last in the help.
 """
 
 import argparse
+import itertools
 import re
 from typing import Any, NoReturn
 
@@ -58,9 +59,7 @@ class Acting(Options):
     moved: bool = flag(
         "Go on although the election was moved here, or an older copy was restored; the result page says so"
     )
-    because: str | None = option(
-        "TEXT", "The reason, in your words, for --moved, --force, strike or reopen"
-    )
+    because: str | None = option("TEXT", "The reason, in your words, for --moved or --force")
 
     # whether the command needs a folder that is writable, and computes all digests anew
     writes = True
@@ -87,8 +86,6 @@ class Parser(argparse.ArgumentParser):
             message = f"there is no command {found[1]!r}"
             for near in difflib.get_close_matches(found[1], found[2].split("', '"), 1):
                 message += f"; did you mean {near}?"
-        if message == "unrecognized arguments: --marked":
-            message = "--marked: it is always so now; leave it out"
         super().error(message)
 
 
@@ -98,14 +95,14 @@ def add_version(parser: argparse.ArgumentParser) -> None:
 
 
 def add_arguments(parser: argparse.ArgumentParser, kind: type[Options]) -> None:
-    for owner in kind.__mro__:
-        for field in owner.__dict__.get("__annotations__", {}):
-            how = dict(owner.__dict__[field])
-            if how.pop("is_positional", False):
-                parser.add_argument(field, **how)
-            else:
-                name = how.pop("name", f"--{field.replace('_', '-')}")
-                parser.add_argument(name, dest=field, **how)
+    of_owners = (owner.__dict__.get("__annotations__", {}) for owner in kind.__mro__)
+    for field in dict.fromkeys(itertools.chain.from_iterable(of_owners)):
+        how = dict(getattr(kind, field))
+        if how.pop("is_positional", False):
+            parser.add_argument(field, **how)
+        else:
+            name = how.pop("name", f"--{field.replace('_', '-')}")
+            parser.add_argument(name, dest=field, **how)
 
 
 def given(arguments: Options, *names: str) -> list[str]:

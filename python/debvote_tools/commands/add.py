@@ -2,7 +2,6 @@
 
 import collections
 import dataclasses
-import itertools
 import operator
 import re
 from collections.abc import Iterable, Iterator, Mapping, Sequence
@@ -21,7 +20,7 @@ from debvote_tools.inbox import entering
 from debvote_tools.inbox.given_files import GivenFile, read_files
 from debvote_tools.inbox.lines import MARK, Line, lines_in
 from debvote_tools.inbox.option_names import OptionNames
-from debvote_tools.inbox.vote import IN_ORDER, CheckedLine, Vote, replies_to, summary
+from debvote_tools.inbox.vote import CheckedLine, Vote, replies_to, summary
 from debvote_tools.outbox.steps import tell_next
 from debvote_tools.text.ballots import part_of
 
@@ -361,7 +360,9 @@ def faults_of_lines(vote: Vote, new: NewLines, arguments: Arguments) -> Iterator
     with_new_lines = [file for file in new.files if file.new]
     for file in with_new_lines:
         if file.is_table:
-            yield Fault(file.name, TABLE, f"{IN_ORDER}, or {FORCE}")
+            yield Fault(
+                file.name, TABLE, f"{vote.cure_by_reason('the file', file.lines)}, or {FORCE}"
+            )
     no_tables = [file for file in with_new_lines if not file.is_table]
     yield from under_other_names(vote, no_tables)
     yield from few_ballots(vote, no_tables)
@@ -454,8 +455,7 @@ def cure_of(vote: Vote, file: FileLines) -> str:
     head = file.file.data.removeprefix(MARK).lstrip().partition(b"\n")[0].decode("utf-8", "replace")
     if MEMBERS_HEADS <= {cell.strip(' \t\r"').casefold() for cell in re.split("[,;\t]", head)}:
         return "it looks like the list of members: name the file of ballots"
-    refused = next(itertools.filterfalse(is_ballot, file.lines))
-    return f"look at the file ({refused.original.where}: {vote.in_words(refused)}), and {IN_ORDER}"
+    return vote.cure_by_reason("the file", file.lines)
 
 
 # ---- what is printed

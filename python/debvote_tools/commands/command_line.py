@@ -60,9 +60,7 @@ def parser(typed: Sequence[str] = ()) -> argparse.ArgumentParser:
     text = "Runs an election in one folder, from the list of members to the published result, with debvote."
     top = arguments.Parser(prog=PROGRAM, description=text, formatter_class=ByPhase, **how)
     arguments.add_version(top)
-    commands = top.add_subparsers(
-        title="commands", dest="command", metavar="COMMAND", required=True
-    )
+    commands = top.add_subparsers(title="commands", dest="command", metavar="COMMAND")
     for name in typed[:1] if typed and typed[0] in COMMANDS else COMMANDS:
         module = importlib.import_module(f"debvote_tools.commands.{name}")
         run = getattr(module, name)
@@ -86,9 +84,13 @@ def main(program_folder: pathlib.Path, typed: Sequence[str] | None = None) -> in
     gc.disable()
     typed = sys.argv[1:] if typed is None else typed
     try:
-        namespace = parser(typed).parse_args(typed)
+        top = parser(typed)
+        namespace = top.parse_args(typed)
     except ModuleNotFoundError as error:
         return console.failed(PROGRAM, not_installed(error).words, Status.NOT_FOUND)
+    if namespace.command is None:
+        top.print_help()
+        return Status.BAD_WORDS
     signal.signal(signal.SIGINT, signal.default_int_handler)
     election = Election(getattr(namespace, "folder", None), program_folder)
     try:

@@ -28,7 +28,7 @@ from debvote_tools.election import Election, History
 from debvote_tools.files import BALLOTS_LIMIT
 from debvote_tools.inbox import entering
 from debvote_tools.inbox.lines import Line, Names, lines_in
-from debvote_tools.inbox.vote import IN_ORDER, CheckedLine, Vote, change_words, summary
+from debvote_tools.inbox.vote import CheckedLine, Vote, change_words, summary
 from debvote_tools.outbox.steps import tell_next
 from debvote_tools.poll.plain_names import alike
 from debvote_tools.text.ballots import answers_text, ranks_by_label
@@ -151,7 +151,8 @@ class Desk:
         """Stops at ranks below the head of a table, before they are cast."""
         came = [*self.above, *lines]
         if self.vote.are_table(came):
-            raise Fault("desk", TABLE, IN_ORDER, Status.BAD_BALLOTS)
+            cure = self.vote.cure_by_reason("what came", came)
+            raise Fault("desk", TABLE, cure, Status.BAD_BALLOTS)
         # no other ballot is a head, nor a line of a table; and of what was above the first it was
         # asked then
         first = [line for line in came if line.is_ballot][:1]

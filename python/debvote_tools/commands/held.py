@@ -330,11 +330,12 @@ def entry_of(
 def shown(vote: Vote, one: Chosen) -> Iterator[str]:
     """Ballots of a letter, below all that it says, if that is more."""
     letter = one.letter
-    if not letter.is_nothing_else:
+    is_whole = not letter.is_nothing_else
+    if is_whole:
         yield from letter_words.whole(letter, ours(vote, letter))
     for line in one.lines:
         said = f"{vote.ballot_in_words(line.as_entered)}{quoted_words(letter, line)}"
-        yield f"{who_and_when(letter)}: {said}\n  {why(letter, line.elector)}"
+        yield said if is_whole else f"{who_and_when(letter)}: {said}\n  {why(letter, line.elector)}"
 
 
 def ours(vote: Vote, letter: LetterCase) -> Callable[[str], bool]:

@@ -127,8 +127,7 @@ def letters_of_kind(
         tried = send_letters(due, server)
     tell(*notes_on(due, {place: [*due.going_again, *due.new], **lost}))
     tell(*(sent_words(due, tried) if server else written_words(due, place, written, lost)))
-    tell(*unreached_words(election))
-    tell_next(election)
+    tell_end(election)
     return exit_status(due, tried)
 
 
@@ -198,10 +197,9 @@ def send_ready(election: Election, sender: str, server: Server | None) -> Status
         tell(*notes_on(due, {place: due.new}))
         tell(*(f"{kind}: {line}" for line in sent_words(due, tried)))
         status = max(status, exit_status(due, tried))
-    tell(*unreached_words(election))
     if not (is_sent or faults or words_of(election, Step.RECEIPTS, Step.LETTERS)):
         tell(ALL_TAKEN)
-    tell_next(election)
+    tell_end(election)
     stop_at(faults)
     return status
 
@@ -289,14 +287,17 @@ def sent_words(due: LettersDue, tried: Sequence[OutgoingLetter]) -> Iterator[str
         yield "Try again in a quarter of an hour, or with corrected addresses."
 
 
-def unreached_words(election: Election) -> Iterator[str]:
-    """Names those whom the call has not reached, until a letter to them is taken."""
+def tell_end(election: Election) -> None:
+    """Names those whom the call has not reached, until a letter to them is taken; and what comes
+    next.
+    """
     unreached, _ = unreached_and_printed(election, election.history())
     if names := [
         f"{one.elector.name} ({one.why}{f': {shown_text(one.reply)}' if one.why == WAS_REFUSED else ''})"
         for one in unreached
     ]:
-        yield f"Not reached by the call: {listed(names, MOST)}"
+        tell(f"Not reached by the call: {listed(names, MOST)}")
+    tell_next(election)
 
 
 # ---- the words of the command line

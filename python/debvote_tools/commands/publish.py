@@ -124,7 +124,6 @@ def publish(election: Election, arguments: Arguments) -> int:
     tell_published(election, filled.outcomes, target, is_new=is_new)
     sheets = {label: outcome.sheet for label, outcome in filled.outcomes.items()}
     tell_aside(*unneeded_words(words.castings, sheets))
-    tell_next(election)
     return max(sheet.status for sheet in sheets.values())
 
 
@@ -226,7 +225,7 @@ def put_in_place(
 def tell_published(
     election: Election, outcomes: Mapping[str, Outcome], target: pathlib.Path, *, is_new: bool
 ) -> None:
-    """Tells what was published, and writes its letters."""
+    """Tells what was published, writes its letters, and tells what comes next."""
     as_before = "" if is_new else ", as it was published before; nothing was changed in the book"
     for label, outcome in outcomes.items():
         tell(f"{label and f'{label}: '}{outcome.sheet.last_line}", outcome.verified)
@@ -242,6 +241,7 @@ def tell_published(
         tell(
             f"Where it takes the place of the page, remove {SCRIPT} and {records_file(queries.sealed(election.book, BOX_KEY))}."
         )
+    tell_next(election)
 
 
 def demand_place(election: Election, target_folder: pathlib.Path, history: History) -> None:

@@ -4,7 +4,7 @@ from collections.abc import Iterator
 
 from debvote_tools.book import queries
 from debvote_tools.book.change import Change, carried_out, terminal_question
-from debvote_tools.cli.arguments import Acting, demand_reason, flag
+from debvote_tools.cli.arguments import Acting, demand_reason, flag, option
 from debvote_tools.cli.console import act_time, listed, shown_line, tell
 from debvote_tools.cli.faults import Fault
 from debvote_tools.election import Election, History
@@ -16,6 +16,7 @@ from debvote_tools.outbox.steps import tell_next
 
 class Arguments(Acting):
     yes: bool = flag("Open it without asking")
+    because: str = option("TEXT", "The reason, in your words", required=True)
 
 
 def reopen(election: Election, arguments: Arguments) -> None:

@@ -5,7 +5,7 @@ import re
 from debvote_tools.book import queries
 from debvote_tools.book.change import Change, carried_out, terminal_question
 from debvote_tools.book.queries import Envelope
-from debvote_tools.cli.arguments import Acting, demand_reason, flag, positional
+from debvote_tools.cli.arguments import Acting, demand_reason, flag, option, positional
 from debvote_tools.cli.console import act_time, shown_line, tell
 from debvote_tools.cli.faults import Fault
 from debvote_tools.commands.undo import demand_open
@@ -25,6 +25,7 @@ class Arguments(Acting):
         "NUMBER", "The number of the envelope, as add, desk and show print it", type=int
     )
     yes: bool = flag("Strike it without asking")
+    because: str = option("TEXT", "The reason, in your words", required=True)
 
 
 def strike(election: Election, arguments: Arguments) -> None:

@@ -92,18 +92,18 @@ def fates_of(
         )
     ]
     for letter in cases:
-        fates += fates_of_letter(letter, history, is_of_all_senders=elector is not None)
+        time = letter.read.arrived or history.act(letter.kept.act).time
+        fates += fates_of_letter(letter, time, is_of_all_senders=elector is not None)
     by_name = grouped(sorted(fates, key=lambda of_name: of_name[1].time))
     return {name: by_name.get(name, []) for name in (*names.values(), NOBODY)}
 
 
 def fates_of_letter(
-    letter: LetterCase, history: History, *, is_of_all_senders: bool
+    letter: LetterCase, time: datetime.datetime, *, is_of_all_senders: bool
 ) -> Iterator[tuple[str, Fate]]:
     """A letter as it is told of each elector, with their name. One of whom several have the
     sender's address is of all of these, or of none.
     """
-    time = letter.read.arrived or history.act(letter.kept.act).time
     is_of_senders = is_of_all_senders or letter.sending_elector
     senders = letter.sharing if is_of_senders else ()
     for name in dict.fromkeys((*letter.electors, *senders)) or [NOBODY]:

@@ -190,7 +190,7 @@ def whole(letter: LetterCase, is_ours: Callable[[str], bool]) -> Iterator[str]:
             yield "It was entered."
         elif letter.reason is not None:
             waits = "waits" if letter.is_pending else "does not wait"
-            yield f"It {waits}: {for_secretary(letter.reason)}"
+            yield f"It {waits}: {why(letter)}"
         yield from (*near_words(letter), *more_words(letter))
 
 

@@ -295,6 +295,14 @@ class Vote:
             for part in in_parts(asked[first:])
         )
 
+    def cure_by_reason(self, source: str, lines: Iterable[CheckedLine]) -> str:
+        """The cure where lines are no ballots, or look like a table: it names the first that is
+        none, since a wrong name there may be all that is wrong.
+        """
+        refused = next(line for line in lines if not line.is_ballot)
+        shown = f"{refused.original.where}: {self.in_words(refused)}"
+        return f"look at {source} ({shown}), and {IN_ORDER}"
+
     def as_asked(self, line: CheckedLine) -> bytes:
         """A line as debvote is asked whether it is one of a table: a ballot as it is meant, another
         line as it came. A word of a motion counts as a rank, but is none of the ranks of a head.

@@ -3,6 +3,7 @@
 import argparse
 import pathlib
 import signal
+import threading
 import webbrowser
 
 from debvote_tools.cli import arguments, console
@@ -68,7 +69,10 @@ def serve(office: Office, port: int, *, has_browser: bool) -> int:
         office.write_page()
         office.say_page()
         if has_browser:
-            webbrowser.open(office.page.as_uri())
+            # one that runs in this terminal is waited for
+            opening = threading.Thread(target=webbrowser.open, args=[office.page.as_uri()])
+            opening.daemon = True
+            opening.start()
             console.tell(
                 f"The page is open in your browser; else open {office.page} there. Ctrl-C ends it."
             )

@@ -29,7 +29,8 @@ KINDS = {
     ".json": "application/json",
 }
 # of a published page, which has a policy of its own beside it, and of what is to be printed: both
-# are no pages of the office, and cannot post to it
+# are no pages of the office, and cannot post to it. What is below the secret of the office has no
+# script, which would read its own address
 RESULT_POLICY = "sandbox allow-scripts allow-downloads; frame-ancestors 'none'"
 PRINT_POLICY = "sandbox; default-src 'none'; style-src 'unsafe-inline'; frame-ancestors 'none'"
 
@@ -216,9 +217,7 @@ def printed(visit: Visit, rest: str) -> Answer:
         raise Refused() from None
     except OSError as error:
         raise Fault(rest, error.strerror, "make it again with its command") from None
-    # the page of a call shows ranks as buttons by its own script
-    policy = RESULT_POLICY if rest.endswith("index.html") else PRINT_POLICY
-    return File(data, kind_of(rest), policy)
+    return File(data, kind_of(rest), PRINT_POLICY)
 
 
 PAGES: Mapping[str, Callable[[Visit], Answer]] = {

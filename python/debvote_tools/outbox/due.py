@@ -177,10 +177,14 @@ def history_once_due(election: Election, kind: str, because: str | None) -> Hist
     if kind in ASKING and not is_forced:
         ask_for(election, kind)
     history = election.history()
-    if kind == "result" or (kind == "closed" and not is_forced):
-        pending = pending_letters(election, history)
-        stop_at(what_stops(election, history, kind, pending).values())
+    if kind == "closed" and not is_forced:
+        demand_nothing_stops(election, history, kind)
     return history
+
+
+def demand_nothing_stops(election: Election, history: History, kind: str) -> None:
+    pending = pending_letters(election, history)
+    stop_at(what_stops(election, history, kind, pending).values())
 
 
 def electors_by_number(election: Election, *, hides_codes: bool) -> dict[int, Elector]:
@@ -216,6 +220,8 @@ def demand_due(election: Election, history: History, kind: str, *, is_over: bool
         words = "codes are on the roll, and nobody knows whose they are, so no letters can be written to electors"
         cure = "with your mail program send call/call.txt, letters/closed.txt and letters/result.txt to all"
         raise Fault("letters", words, cure)
+    if kind == "result" and history.is_closed:
+        demand_nothing_stops(election, history, kind)
     if kind in ("call", "reminders") and is_over:
         words = "the vote is over, so nobody is asked to vote"
         cure = f"see {election.command('status')}"

@@ -376,12 +376,12 @@ def ties_of(election: Election, history: History) -> dict[str, Sequence[str]]:
 
 
 # ---- in words
-def tell_next(election: Election, *taken: Step, say: Callable[..., None] = tell) -> None:
+def tell_next(election: Election, *taken: Step) -> None:
     """The last line of a command. `taken` are steps that it takes itself, and that the book does
     not keep.
     """
     due = what_next(election, election.history())
-    say(next_line(election, [one for one in due if one.step not in taken]))
+    tell(next_line(election, [one for one in due if one.step not in taken]))
 
 
 def next_line(election: Election, due: Sequence[Due], before: str = "") -> str:
@@ -398,7 +398,25 @@ def words_of(election: Election, *steps: Step) -> list[str]:
 
 def in_words(election: Election, due: Due) -> str:
     """A step as a terminal says it: why it is due, and the command."""
-    return IN_WORDS[due.step](election, due)
+    if due.step in IN_WORDS:
+        return IN_WORDS[due.step](election, due)
+    places = {
+        "waiting": count_of(due.number, "letter waits", "letters wait"),
+        "electors": count_of(due.number, "elector"),
+        "time": times.time_in_words(due.time) if due.time else "",
+    }
+    return PLAIN[due.step].format_map(Places(election, places))
+
+
+class Places(dict[str, str]):
+    """What is in braces: a place that is given, or else a command."""
+
+    def __init__(self, election: Election, places: Mapping[str, str]) -> None:
+        super().__init__(places)
+        self.election = election
+
+    def __missing__(self, words: str) -> str:
+        return self.election.command(*words.split())
 
 
 def said(election: Election, step: Step) -> str:
@@ -415,10 +433,6 @@ def new_words(election: Election, _: Due) -> str:
     return draft_words(polls, election.command("roll"))
 
 
-def codes_words(election: Election, _: Due) -> str:
-    return f"the vote is secret, and electors have no codes yet: {election.command('codes')}"
-
-
 def call_words(election: Election, _: Due) -> str:
     command = election.command("call", "--until", "YYYY-MM-DD HH:MM", "--to", "ADDRESS")
     return f"{command} (the end of the vote, and the address for ballots; both are optional)"
@@ -429,14 +443,6 @@ def doubt_words(election: Election, due: Due) -> str:
         return f"the clock of this computer is wrong: the last act was at {act_time(due.time)}; set it right"
     doubt = election.book.doubts()[0]
     return f"{doubt.reason}; {doubt.cure}"
-
-
-def page_words(election: Election, _: Due) -> str:
-    return f"the page on the web host is not that of the call: upload the folder {election.path(CALL)}, then {election.command('add', '--box')}"
-
-
-def held_words(election: Election, due: Due) -> str:
-    return f"{count_of(due.number, 'letter waits', 'letters wait')}: {election.command('held')}"
 
 
 def receipt_words(election: Election, due: Due) -> str:
@@ -537,15 +543,6 @@ def file_of(election: Election, history: History, kind: str) -> pathlib.Path:
     return election.path(files.get(kind, of_call))
 
 
-def not_reached_words(election: Election, due: Due) -> str:
-    number = count_of(due.number, "elector")
-    return f"the call has not reached {number}, whom status names: tell them otherwise, then {said(election, Step.NOT_REACHED)}; or correct {MEMBERS_FILE}, and run {election.command('roll')}"
-
-
-def backup_words(election: Election, _: Due) -> str:
-    return f"copy the book to another disk: {election.command('backup', 'FILE')}"
-
-
 def reminder_words(election: Election, due: Due) -> str:
     remind = sending(election, "reminders")
     if unasked_fault(election, election.history(), "reminders"):
@@ -556,11 +553,6 @@ def reminder_words(election: Election, due: Due) -> str:
 
 def entering(election: Election) -> str:
     return f"{election.command('add', 'FILE')}, or {election.command('desk')}"
-
-
-def wait_words(election: Election, due: Due) -> str:
-    assert due.time is not None
-    return f"until {times.time_in_words(due.time)} ballots come: {entering(election)}"
 
 
 def close_words(election: Election, _: Due) -> str:
@@ -604,33 +596,28 @@ def tie_words(election: Election, due: Due) -> str:
     )
 
 
-def nothing_words(election: Election, _: Due) -> str:
-    return f"nothing is left; if somebody asks about a ballot, {election.command('show', 'NAME')} says what came"
-
-
-def command_alone(name: str) -> Callable[[Election, Due], str]:
-    return lambda election, _: election.command(name)
-
-
+# steps whose words need no more than commands, which are in braces, and these places
+PLAIN = {
+    Step.ROLL: "{roll}",
+    Step.CHECK: "{check}",
+    Step.CODES: "the vote is secret, and electors have no codes yet: {codes}",
+    Step.PAGE: "the page on the web host is not that of the call: upload the folder call, then {add --box}",
+    Step.HELD: "{waiting}: {held}",
+    Step.NOT_REACHED: "the call has not reached {electors}, whom status names: tell them otherwise, then {status --done reached}; or correct members.csv, and run {roll}",
+    Step.BACKUP: "copy the book to another disk: {backup FILE}",
+    Step.WAIT: "until {time} ballots come: {add FILE}, or {desk}",
+    Step.COUNT: "{count}",
+    Step.NOTHING: "nothing is left; if somebody asks about a ballot, {show NAME} says what came",
+}
 IN_WORDS: Mapping[Step, Callable[[Election, Due], str]] = {
     Step.DRAFT: new_words,
-    Step.ROLL: command_alone("roll"),
-    Step.CHECK: command_alone("check"),
-    Step.CODES: codes_words,
     Step.CALL: call_words,
     Step.DOUBTS: doubt_words,
-    Step.PAGE: page_words,
-    Step.HELD: held_words,
     Step.RECEIPTS: receipt_words,
     Step.UPLOAD: upload_words,
     Step.LETTERS: letters_words,
-    Step.NOT_REACHED: not_reached_words,
-    Step.BACKUP: backup_words,
     Step.REMINDERS: reminder_words,
-    Step.WAIT: wait_words,
     Step.CLOSE: close_words,
-    Step.COUNT: command_alone("count"),
     Step.PUBLISH: publish_words,
     Step.TIE: tie_words,
-    Step.NOTHING: nothing_words,
 }

@@ -231,14 +231,19 @@ class Model:
         only below such as were above them before.
         """
         own = [other for other in self.envelopes if other.name == one.name and not other.is_late]
-        above = [other for other in own if other.number < one.number and other.out == "undo"]
+        gone = [other for other in own if other.out == "undo" and other.is_ballot]
         since = [other for other in own if other.number > one.number and not other.out]
         again = set()
         for place, other in enumerate(since, start=1):
             for label, ranks in other.answers.items():
-                turned = {earlier.answers.get(label) for earlier in above} - {ranks, None}
+                above = {old.answers.get(label) for old in gone if old.number < one.number}
+                turned = above - {ranks, None}
+                is_last = not any(
+                    old.act == one.act and old.number > one.number and label in old.answers
+                    for old in gone
+                )
                 are_turned = any(later.answers.get(label) in turned for later in since[place:])
-                if one.answers.get(label) == ranks and not are_turned:
+                if one.answers.get(label) == ranks and not (is_last and are_turned):
                     again.add(label)
         is_out = one.out == "undo" and one.is_ballot and not one.is_late
         return is_out and not one.answers.keys() <= again

@@ -306,9 +306,6 @@ class Letters(CallTest):
         self.done(f"call {UNTIL} --to vote@club.example")
         # no code was given out with a call of an open vote
         self.assertNotIn("An earlier call", self.texts())
-        gone = self.election("call --marked")
-        said = "debvote-election: error: --marked: it is always so now; leave it out"
-        self.assertEqual((gone.status, gone.faults.splitlines()[-1]), (2, said))
 
     def test_the_text_is_sealed_by_each_call(self):
         self.write("letter.txt", "x" * 78 + "\n" + "y" * 79 + "\n")

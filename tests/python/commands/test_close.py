@@ -263,7 +263,7 @@ class Reopen(LettersTest):
         following = "\nNext: put the folder result on the web site as it is, then debvote-election status --done upload\n"
         self.assertTrue(self.told("status").endswith(f"{following}Then: {nothing}"))
         self.tells("status --done upload", f"Next: {nothing}")
-        self.refused("reopen", "reason", status=2)
+        self.refused("reopen --because ' '", "reason", status=2)
         self.done("reopen --because x")
         self.refused("reopen --because x", "not closed")
         self.assertEqual(self.numbers()["stage"], "called")

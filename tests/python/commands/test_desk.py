@@ -339,7 +339,8 @@ class FromAPipe(CalledTest):
         said = "desk: the lines look like a table; its columns may stand in another order than the options; "
         head, row = "Name None,Sell,Repair,Dinghy", "ada 4,1,2,3\n"
         right = "write each line as a name and its ranks in the order of the options"
-        self.assert_refused("desk", 4, said, right, given=f"{head}\n{row}")
+        why = f"look at what came (desk:1: {head}: bad shape: "
+        self.assert_refused("desk", 4, said, why, right, given=f"{head}\n{row}")
         self.assert_lines()
         desk = self.desk()
         self.answer(desk, f"{head}\n", "1 bad shape  Name")
@@ -351,8 +352,9 @@ class FromAPipe(CalledTest):
         self.answer(desk, "Name A/B/C/D\n", "3 bad shape  Name")
         self.assertIn(said, "".join(desk.communicate(f"dan\n{row}")))
         self.assertEqual(len(self.lines()), 3)
-        # a refused ballot is no head
+        # a refused ballot is no head, nor is one with a wrong name
         self.cast(f"Mrs Lovelace {RANKS}", f"ada {RANKS}", "Name 1,1,2,3", f"ben {RANKS}")
+        self.cast("adda 2,1,4,3", f"ben {RANKS}")
 
     def test_many_lines_in_one_go(self):
         lines = [f"ada {number // 99 + 1},{number % 99 + 1},1,2" for number in range(9000)]

@@ -61,7 +61,9 @@ class New(elections.ElectionTest):
             ended = self.traced("-e", full, words=["new spring"])
             self.assertEqual((ended.status, list(self.folder.iterdir())), (7, []), ended)
 
-    def test_a_misspelt_command(self):
+    def test_no_command_and_a_misspelt_one(self):
+        ended = self.election(cwd=self.scratch)
+        self.assertEqual((ended.status, "If something is wrong:" in ended.output), (2, True))
         for word, said in {
             "stauts": "'stauts'; did you mean status?",
             "Counts": "'Counts'; did you mean count?",

@@ -50,8 +50,7 @@ class Strike(CalledTest):
         }.items():
             self.refused(f"strike {number} {WHY}", part)
         for why, part in {
-            "": "strike: it needs a reason, which the log keeps; nothing was changed: ",
-            "--because ' '": "strike: it needs a reason",
+            "--because ' '": "strike: it needs a reason, which the log keeps; nothing was changed: ",
             "--because 'a\u202eb'": f"{no_text}202E, which no plain text has",
             "--because 'a\x1b[1m'": f"{no_text}001B",
             "--because 'one line\nand one more'": f"{no_text}000A",

@@ -110,9 +110,17 @@ class Undo(CalledTest):
             self.told("undo")
             self.adds(f"{given}ben {RANKS}\n")
         self.tells("status", "not entered again as they were: 2 (envelopes 2, 5).\n")
+        # who chose one, another, and the first again, did so in the same order
+        again = first + last + first
+        for given in (again, again):
+            self.told("undo")
+            self.adds(f"{given}ben {RANKS}\n")
+            self.tells("status", "not entered again as they were: 2 (envelopes 2, 5).\n")
+        self.told("undo")
+        self.adds(f"{first}{first}{last}ben {RANKS}\n")
         # what is typed now did not come before
         self.cast(f"ben {OTHER_RANKS}", f"ben {RANKS}")
-        self.tells("close", "not entered again as they were: 2 (envelopes 2, 5).")
+        self.tells("close", "not entered again as they were: 3 (envelopes 8, 12, 16).")
 
     def test_an_act_is_known_by_its_envelopes_whatever_its_name_is(self):
         self.enter_letter("offer")

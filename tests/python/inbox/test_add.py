@@ -404,8 +404,8 @@ class OtherOrder(StopsTest):
 
     def test_what_looks_like_a_table(self):
         """By the head, whatever it says, or by the rows; nothing of it is repaired."""
-        said = "wrong: the lines look like a table; its columns may stand in another order than the options; nothing was added: "
-        cure = "write each line as a name and its ranks in the order of the options, or add it anyway with --force"
+        said = "wrong: the lines look like a table; its columns may stand in another order than the options; nothing was added: look at the file (wrong:"
+        cure = "), and write each line as a name and its ranks in the order of the options, or add it anyway with --force"
         heads = rows(
             """
 Name None,Sell,Repair,Dinghy
@@ -423,12 +423,25 @@ When/Who/Mail/Note/A/B/C/D
             "ada,1,2,3,4\nben,1,2,3,4\n",
             "ada 1 2 3 4\nben 1 2 3 4\n",
             "ada;1;2\nben\t1\t2\n",
+            '"ada","1","2","3","4"\n"ben","2","1","3","4"\n',
         ):
             self.stops(table, said, cure)
+        # the first that is refused is named, with the reason
+        reason = "wrong:2: zoe 2,1,4,3: bad not on roll: zoe is not on the roll), and"
+        self.stops(f"ada {RANKS}\nzoe 2,1,4,3\nName;A;B;C;D\n{self.ROWS}", said, reason)
         self.write("wrong", "Name;Lake;Hall;Sell;Further\nada 1;2;3;4\nben 2,1,3,4\n")
         self.tells("add --force wrong", "Added 3 lines (2 bad shape, 1 counted).\n")
         lines = ["Name;Lake;Hall;Sell;Further", "ada 1;2;3;4", "ben 2,1,3,4"]
         self.assertEqual(self.lines(), lines)
+
+    def test_a_wrong_name_or_a_sentence_on_the_first_line(self):
+        """Neither makes a table of the ballots below it."""
+        for first, said in (
+            ("adda 2,1,4,3", "adda is not on the roll; did you mean ada?"),
+            ("Ballots of the general meeting", "bad shape"),
+        ):
+            with self.subTest(first):
+                self.adds(f"{first}\nben {RANKS}\ncleo {RANKS}\n", said, words="--look")
 
     def test_what_looks_like_none(self):
         """A refused ballot above others, a head without ranks below it, and notes of few words."""

@@ -105,7 +105,7 @@ class InABrowser(ClickedElection):
         self.window.ballot(None, ranks.split(","))
         said = boxes.press(self.window)
         self.assertRegex(said, "^It has arrived, sent ")
-        [spoken] = re.findall(r"sent (\w+ \d+, \d{4}, [\d:]+\s[AP]M)\.", said)
+        [spoken] = re.findall(r"sent (\w+ \d+, \d{4}, [\d:]+\s[AP]M)\s[\w:+-]+\.", said)
         # the browser has the zone of this computer
         sent = datetime.datetime.strptime(re.sub(r"\s", " ", spoken), "%b %d, %Y, %I:%M:%S %p")
         hour = datetime.timezone(datetime.timedelta(hours=1))

@@ -322,12 +322,13 @@ class Closes(AskedTest):
         self.later(700)
         before = len(self.acts())
         self.assertEqual((self.election("close").status, len(self.acts())), (9, before))
+        # the clock of the close stands, and the click comes before it
+        self.off(self.devices_off + 30)
         terminal = Terminal(self, "close", "--early")
         terminal.until(ALL)
         self.click("ada")
-        self.later()
         terminal.ends("y\n")
-        self.later()
+        self.later(60)
         self.refused("letters result", "nothing is published")
         # what the asking finds stops it as it stops the count, before electors have the checksum
         for words in ("letters closed", "count"):

@@ -109,8 +109,8 @@ class Listed(HeldTest):
             self.stops(typed, *(f"letter {number}: {more}" for number in (1, 3, 7)))
         # what was agreed to is what goes in
         desk = Terminal(self, "held", "7", "--enter")
-        asked = f"letter {{0}}, from {{1}}@club.example, 2026-11-23 10:00:00 UTC: {{1}}: {LAKE}\n  {{2}}\n".format
-        self.assertIn(asked(7, "gus", NOT_ALONE(1)), without_marks(desk.until("[y/n] ")))
+        asked = f"It waits: {NOT_ALONE(1)}\nline 1: gus {RANKS}\ngus: {LAKE}\n"
+        self.assertIn(asked, desk.until("[y/n] "))
         self.cast(f"dan {RANKS}", f"gus {RANKS}")
         said = f"letter 7: its elector has voted since; {AGAIN}"
         self.assertIn(said, desk.after("y\n", "voted-since"))
@@ -231,7 +231,7 @@ class Entered(HeldTest):
         self.stops("3 6 7 8 --enter --yes", *faults)
         # each is asked about, in the order in which they are named
         for number in (5, 3, 4, 1):
-            self.agrees(f"{number} --enter", " UTC: ", "[y/n] ")
+            self.agrees(f"{number} --enter", "\nline ", "[y/n] ")
         lines = [f"cleo {RANKS}", f"cleo {OTHER}", f"dan {OTHER}", f"ada {RANKS}"]
         self.assert_left(4, *lines)
         for number in (6, 7, 8):
@@ -280,7 +280,7 @@ class Entered(HeldTest):
         self.tells(
             "held 2 --as 'Ben: 2, 1, 4, 3'",
             "   1  I am for the hall\n",
-            f"letter 2, from ben@club.example, 2026-11-23 10:00:00 UTC: ben: {HALL}\n  no ballot found\n1 counted  ben: In the town hall",
+            f"It waits: no ballot found\nben: {HALL}\n1 counted  ben: In the town hall",
         )
         [envelope] = self.envelopes()
         found = envelope.line.decode(), envelope.letter, envelope.time.hour
@@ -488,7 +488,7 @@ class OtherVote(HeldTest):
         cure = "nothing was changed: add it to that vote; if this ballot must count, repeat it with --force"
         for how in ("--enter", f"--as 'ada {RANKS}'"):
             self.stops(f"1 {how}", f"letter 1: {self.of_other}; {cure}", self.untied(1, "ada"))
-        said = f"UTC: ada: {LAKE}\n  {self.of_other}; add it to that vote\n"
+        said = f"It does not wait: {self.of_other}; add it to that vote\nline 1: ada {RANKS}\nada: {LAKE}\n"
         self.agrees("1 --enter --force not-tied", said)
         # with two digits that differ it is of this one, miscopied; and with an own mark beside it
         digits = "0123456789abcdef"

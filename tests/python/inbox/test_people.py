@@ -71,7 +71,13 @@ def case_of(head: Mapping[str, str], text: str) -> LetterCase:
     kind = {"kind": HTML} if head["body"] == "html" else {}
     data = parsed(letter(name, text, subject=f"Re: {subject}", **kind))
     its_names = names(language=head["language"], real_names=REAL, **how)
-    return judged_alone(with_texts([data], its_names, validity)[0], circumstances())
+    addresses = {elector: [f"{elector}@club.example"] for elector in NAMES}
+    if head["way"] == "couple":
+        # two who share an address
+        couple = re.findall(r"(?:^|; )(\w+)", head["means"])
+        addresses |= dict.fromkeys(couple, [f"{name}@club.example"])
+    [read] = with_texts([data], its_names, validity)
+    return judged_alone(read, circumstances(addresses=addresses))
 
 
 def dense(ballot: str) -> str:
@@ -110,4 +116,4 @@ class People(unittest.TestCase):
         self.assertEqual(found.total(), 900)
         self.assertEqual((found["answers", "otherwise"], found["otherwise", "in"]), (0, 0))
         self.assertGreaterEqual(found["answers", "in"], 55)
-        self.assertLessEqual(found["answers", "typed"], 265)
+        self.assertLessEqual(found["answers", "typed"], 249)

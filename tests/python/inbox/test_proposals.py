@@ -211,6 +211,8 @@ class Secret(LettersTest):
     def test_ranks_stand_in_a_letter_that_waits_alone(self):
         self.add(letter("ada", f"{BALLOT}\nSee you!"))
         self.assertNotIn(RANKS, self.told("held"))
-        self.assertIn(RANKS, self.told("held", 1))
+        self.assertNotIn(RANKS, self.told("held", 1))
+        # at a terminal alone
+        self.assertIn(RANKS, Terminal(self, "held", "1").end()[0])
         self.told("held", 1, "--as", RANKS)
         self.assertNotIn(RANKS, self.told("held", 1))

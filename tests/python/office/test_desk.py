@@ -115,11 +115,13 @@ class AtDesk(CalledTest):
 
         def at_desk(number):
             try:
-                for place in range(4):
-                    ranks = f"{number},{place + 1},9,9"
+                for place in range(12):
+                    ranks = f"{number},{place + 1},50,50"
                     text = office.type(self.names[(number + place) % 3], ranks, desk=number)
                     while "Enter it?" in text:
-                        self.assertIn(f" {min(number, place + 1)} ", offices.seen(text))
+                        shown = offices.seen(text)
+                        self.assertIn(f" {number} At the lake", shown)
+                        self.assertIn(f" {place + 1} In the town hall", shown)
                         text = office.yes(text)
             except BaseException as fault:
                 faults.append(fault)
@@ -131,9 +133,9 @@ class AtDesk(CalledTest):
             thread.join()
         self.assertEqual(faults, [])
         wanted = sorted(
-            f"{self.names[(number + place) % 3]} {number},{place + 1},9,9"
+            f"{self.names[(number + place) % 3]} {number},{place + 1},50,50"
             for number in range(1, 9)
-            for place in range(4)
+            for place in range(12)
         )
         self.assertEqual(sorted(self.lines()), wanted)
 

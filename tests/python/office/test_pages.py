@@ -211,6 +211,9 @@ class Drafts(ElectionTest):
             self.assertIn(f"print/{folder}/letter.txt", office.page())
             self.assertIn("Hello", office.page(f"print/{folder}/letter.txt"))
             self.assertIn("Kaufen", office.page(f"print/{folder}/index.html"))
+            # a script of it would read the secret in its own address
+            found = office.ask("GET", f"{office.base}print/{folder}/index.html")
+            self.assertTrue(found[1]["Content-Security-Policy"].startswith("sandbox; default"))
         self.assertEqual(self.election("check", "--preview", "preview").status, 2)
         self.assertEqual({*self.rows("SELECT name FROM act")}, {("new",), ("roll",)})
         # what lies there now is another file: nothing is written, and both are shown

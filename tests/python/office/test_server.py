@@ -6,7 +6,12 @@ import re
 import signal
 import subprocess
 import sys
+import threading
 import time
+from unittest import mock
+
+from debvote_tools.office import office as office_module
+from debvote_tools.office import server
 
 from tests.support import boxes, elections, offices
 from tests.support.elections import ElectionTest
@@ -187,6 +192,15 @@ class BeginAndEnd(ElectionTest):
         while any(map(offices.is_there, children)):
             self.assertLess(time.monotonic(), end)
             time.sleep(0.05)
+
+    def test_it_ends_if_nobody_asks_for_long(self):
+        of_hours = office_module.Office(offices.OFFICE.parent, "en")
+        self.addCleanup(of_hours.close)
+        with mock.patch.object(office_module, "IDLE", 0.1), server.Server(of_hours, 0) as serving:
+            thread = threading.Thread(target=serving.serve_forever)
+            thread.start()
+            thread.join(elections.SECONDS)
+            self.assertFalse(thread.is_alive())
 
     def test_it_opens_and_makes_elections(self):
         office = offices.Office(self, folder=str(self.scratch))

@@ -87,11 +87,17 @@ class Ready(SendTest):
         self.assert_sent_by_all("Vote", "ada")
         self.done("close", "--early")
         self.done("publish", "--force", "--because", "early")
-        # a letter in time stops the letters of the result alone
+        # a letter in time stops the letters of close and result alone
         self.write("inbox.mbox", mailbox(letter("ada", "ada 1,2,4,3\n")))
         self.election("add", "--yes", "inbox.mbox")
-        ended = self.assert_sent_by_all("Vote closed", "ada", "ben", status=9)
-        self.assertIn("these letters arrived in time, and wait: 1;", ended.faults)
+        self.done("letters", "receipts")
+        ended = self.assert_sent_by_all("Receipt", "ada", status=9)
+        fault = "these letters arrived in time, and wait: 1;"
+        self.assertEqual(ended.faults.count(fault), 2, ended.faults)
+        self.done("held 1 --set-aside")
+        self.election("letters", "--send", "--server", self.server.name)
+        closed = "Where we meet in spring"
+        self.assertEqual([closed in one.data.decode() for one in self.server.taken[1:]], [True] * 4)
 
     def test_words(self):
         fault = "letters: no kind is named; nothing was written: name one of call, receipts, reminders, closed, result; only --send goes without it"
