@@ -1,5 +1,5 @@
 # What a developer calls, by short names. Each target calls what is there; tests/all needs no make.
-.PHONY: help try build check test case edit polls claim all teller
+.PHONY: help try office build check test case edit polls claim all teller
 
 N = 500
 SEED = 1
@@ -9,6 +9,9 @@ help: ## list these targets
 
 try: ## build without any proof, and count two examples; ARGS="check --poll FILE" runs these words
 	@tests/try $(ARGS)
+
+office: ## open the office of an example election in the browser, with the program that make try builds
+	@tests/try --office
 
 build: ## prove and build the program, crates/debvote/out/debvote
 	@tests/build

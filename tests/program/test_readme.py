@@ -1,8 +1,9 @@
-"""Runs the commands of README in a copy of the checkout, compares what they print with what it says, and makes its picture anew.
+"""Runs the commands of README in a copy of the checkout, compares what they print with what it says, and makes the pictures anew.
 
 The copy has the program where `make try` builds it. Without it, and without the kit, each command says in one line what is missing.
 """
 
+import http.client
 import os
 import pathlib
 import re
@@ -11,7 +12,7 @@ import struct
 import subprocess
 import sys
 import tempfile
-import unittest
+import urllib.parse
 
 from tests.program import test_guides
 from tests.support import at_browser, expecting, unproved
@@ -21,10 +22,10 @@ README = ROOT / "README.md"
 
 # what the commands read of a checkout
 FILES = "Makefile crates.txt docs/READING-A-SHEET.md tests/reference.py tests/try tests/build tests/quick tests/all"
-FOLDERS = "bin examples python tests/support tests/cases"
+FOLDERS = "bin examples python tests/support tests/cases tests/clock"
 
 # the commands that need the kit, other programs that do, and what they say without it
-OF_KIT = ["make try", "make build", "make test", "tests/all"]
+OF_KIT = ["make try", "make office", "make build", "make test", "tests/all"]
 OF_TESTS = [
     "tests/edits",
     "tests/layout",
@@ -64,6 +65,10 @@ class Commands(expecting.Expecting):
         self.room = pathlib.Path(room.name)
         self.copy = checkout_in(self.room)
 
+    def keep_program(self):
+        words = [sys.executable, "-c", KEEP, PROGRAM]
+        subprocess.run(words, cwd=self.copy, check=True, timeout=SECONDS)
+
     def run_in_copy(self, command, path):
         ended = subprocess.run(
             ["/bin/bash", "-c", command], cwd=self.copy, env={"PATH": path}, **OUTPUT
@@ -72,9 +77,7 @@ class Commands(expecting.Expecting):
 
     def test_blocks(self):
         """Each command prints what README says. What it writes goes to a folder of this test."""
-        subprocess.run(
-            [sys.executable, "-c", KEEP, PROGRAM], cwd=self.copy, check=True, timeout=SECONDS
-        )
+        self.keep_program()
         steps = [
             (words, wanted)
             for kind, words, wanted in test_guides.steps_of(README)
@@ -96,6 +99,31 @@ class Commands(expecting.Expecting):
         said, status = self.run_in_copy(words, path)
         self.expect(
             f"{words}, without a program", ("make try makes one" in said, status), (True, 2)
+        )
+
+    def test_office(self):
+        """Without a screen `make office` prints the address of an election with ballots, of which nothing is left when it ends."""
+        self.keep_program()
+        room = self.room / "example"
+        room.mkdir()
+        environment = {"PATH": os.environ["PATH"], "TMPDIR": str(room)}
+        with subprocess.Popen(
+            ["make", "office"], cwd=self.copy, env=environment, stdout=subprocess.PIPE, text=True
+        ) as process:
+            address = urllib.parse.urlsplit(process.stdout.readline().strip())
+            connection = http.client.HTTPConnection(address.netloc, timeout=SECONDS)
+            connection.request("GET", address.path)
+            text = connection.getresponse().read().decode()
+            connection.request(
+                "POST", f"{address.path}end", headers={"Origin": f"http://{address.netloc}"}
+            )
+            connection.getresponse().read()
+            status = process.wait(SECONDS)
+        parts = ["4 of 9 have voted", "Look at 1 letter that waits"]
+        self.expect(
+            "make office",
+            ([part in text for part in parts], status, [*room.iterdir()]),
+            ([True, True], 0, []),
         )
 
     def test_without_kit(self):
@@ -172,16 +200,26 @@ class Commands(expecting.Expecting):
         )
 
 
+def heads_of(folder):
+    """The head of each picture in a folder, in which its size is, by its name."""
+    files = {file.name: file.read_bytes() for file in pathlib.Path(folder).glob("*.png")}
+    return {name: struct.unpack(">8sI4sII", data[:24]) for name, data in files.items()}
+
+
 @at_browser.NEEDS_BROWSER
-class Picture(unittest.TestCase):
-    def test_picture(self):
-        """The script makes a picture of the size of that which README shows; letters look otherwise where the fonts do."""
+class Pictures(expecting.Expecting):
+    def test_pictures(self):
+        """The script makes pictures of the sizes of those which README and the guide show; letters look otherwise where the fonts do."""
+        texts = [README.read_text(), (test_guides.DOCS / "SECRETARY.md").read_text()]
+        shown = re.findall(r"!\[[^]]+\]\((?:docs/)?(.+\.png)\)", "\n".join(texts))
+        kept = heads_of(test_guides.DOCS)
+        self.expect("shown pictures", {*shown}, {*kept})
         with tempfile.TemporaryDirectory() as folder:
-            made = pathlib.Path(folder, "result.png")
-            subprocess.run([ROOT / "docs" / "make-picture", made], check=True, timeout=SECONDS)
-            sizes = [
-                struct.unpack(">8sI4sII", file.read_bytes()[:24])
-                for file in (made, ROOT / "docs" / "result.png")
-            ]
-        self.assertEqual(sizes[0], sizes[1])
-        self.assertEqual(sizes[0][0], b"\x89PNG\r\n\x1a\n")
+            subprocess.run([ROOT / "docs" / "make-pictures", folder], check=True, timeout=SECONDS)
+            self.expect("their sizes", heads_of(folder), kept)
+        for file in test_guides.DOCS.glob("*.png"):
+            self.expect(
+                f"{file.name} is a small PNG",
+                (kept[file.name][0], file.stat().st_size <= 60_000),
+                (b"\x89PNG\r\n\x1a\n", True),
+            )

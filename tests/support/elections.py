@@ -22,6 +22,7 @@ from debvote_tools.book.machine_note import Note
 from debvote_tools.poll.sealed import OWN, OWN_LENGTH, OWN_SIGNS
 
 from tests.support import forks
+from tests.support.example_election import POLL as POLL
 from tests.support.program import PROGRAM, ROOT
 
 ELECTION = ROOT / "bin" / "debvote-election"
@@ -46,13 +47,7 @@ def any_own(name: str) -> str:
     )
 
 
-# four options and nine electors, of whom nobody has voted
-POLL = """title = "Where we meet in spring"
-options = ["At the lake", "In the town hall", "Sell the house and meet there"]
-ratios = [1, 1, 3]
-default = "Further discussion"
-quorum = 1
-"""
+# nine electors, of whom nobody has voted; the poll is that of the example, of four options
 NAMES = ["ada", "ben", "cleo", "dan", "eve", "fay", "gus", "hal", "ida"]
 
 
