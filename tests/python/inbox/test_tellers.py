@@ -288,7 +288,9 @@ class WholeVote(teller_elections.TellerElectionTest):
         file.write_bytes(again)
         # signed anew it is the same list
         self.told("tellers", file)
-        self.tells("status", "dora opens list-1.txt in the hall, or once it was there for a day; then ")
+        self.tells(
+            "status", "dora opens list-1.txt in the hall, or once it was there for a day; then "
+        )
 
 
 @NEEDS_PHP
