@@ -45,7 +45,7 @@ from debvote_tools.election import (
 from debvote_tools.files import OWN, TABLE_LIMIT, read_whole, write_made
 from debvote_tools.inbox.letter_text import reading_of
 from debvote_tools.inbox.lines import names_of
-from debvote_tools.outbox.steps import Due, Step, next_line, tell_next
+from debvote_tools.outbox.steps import Step, tell_next
 from debvote_tools.poll.questions import POLL_FILE, TITLE_FILE, Questions, place_of, read_questions
 from debvote_tools.poll.sealed import SealedPoll
 from debvote_tools.sheet import sheet_in
@@ -92,8 +92,7 @@ def check(election: Election, arguments: Arguments) -> None:
         tell(f"{label and f'{label}: '}{quorum_words(poll.quorum, draft.quorums[label])}")
     if not history.has_codes_on_roll:
         tell(f"Electors: {len(questions.roll)}", wrapped(questions.roll))
-    # the draft alone says whether the vote will be secret
-    tell(next_line(election, [Due(Step.CODES if draft.lacks_codes else Step.CALL)]))
+    tell_next(election, Step.CHECK)
 
 
 # ---- asking debvote

@@ -58,9 +58,8 @@ def folder(visit: Visit) -> Answer:
         return See("")
     try:
         visit.office.open(pathlib.Path(path).expanduser())
-    except state.Taken:
-        cure = "use its page; or end it there first"
-        raise Fault(path, "another office has this election open", cure, done=None) from None
+    except state.Taken as taken:
+        return Page("taken", {"address": state.address_in(taken.page)})
     return See("")
 
 

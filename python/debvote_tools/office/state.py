@@ -5,6 +5,7 @@ import fcntl
 import json
 import os
 import pathlib
+import re
 import time
 from collections.abc import Iterator
 from typing import IO, Any
@@ -15,6 +16,8 @@ from debvote_tools.files import locked, sha256_of, write_whole
 
 # of the folders that were open the last ones are named
 MOST_FOLDERS = 20
+# the address in the file that opens a page
+LEADS_TO = re.compile(r"url=(http://127\.0\.0\.1:\d+/[\w-]+/)")
 # in seconds: how long an office takes at most to say where its page is
 PATIENCE = 3
 
@@ -120,6 +123,14 @@ def lock_of(folder: pathlib.Path) -> IO[str]:
             file.close()
             raise Taken(page)
         time.sleep(0.05)
+
+
+def address_in(page: str) -> str:
+    """The address to which a file leads that opens a page; empty if it is not there."""
+    with contextlib.suppress(OSError):
+        if found := LEADS_TO.search(pathlib.Path(page).read_text("utf-8")):
+            return found[1]
+    return ""
 
 
 def say_page(lock: IO[str], page: pathlib.Path) -> None:

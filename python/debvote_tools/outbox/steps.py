@@ -16,6 +16,7 @@ from debvote_tools.book import outgoing, queries
 from debvote_tools.book.book import SECONDS_BACK, Detail, DoneAct
 from debvote_tools.book.queries import Elector
 from debvote_tools.call.box import SCRIPT
+from debvote_tools.call.draft import draft_in, labels_in
 from debvote_tools.cli.console import act_time, count_of, tell
 from debvote_tools.cli.faults import Fault
 from debvote_tools.election import (
@@ -25,6 +26,7 @@ from debvote_tools.election import (
     POLLS,
     RESULT,
     RESULT_LETTER,
+    TELLERS,
     URN,
     Election,
     History,
@@ -196,14 +198,20 @@ def draft(now: Now) -> Iterator[Due]:
         yield from (Due(Step.DRAFT), Due(Step.ROLL))
         return
     yield Due(Step.CHECK)
-    # that a vote is to be secret its poll says; the book has that some have no code, or that codes
-    # lapsed
-    having = sum(bool(elector.code) for elector in now.electors)
-    lapsed = [act.detail["codes"] for act in now.history.named("take back")]
-    lacks_codes = having < len(now.electors) and (having or any(lapsed[-1:]))
-    if lacks_codes and not now.history.has_codes_on_roll:
+    have_codes = now.history.has_codes_on_roll or all(elector.code for elector in now.electors)
+    if not have_codes and needs_codes(now.election):
         yield Due(Step.CODES)
     yield Due(Step.CALL)
+
+
+def needs_codes(election: Election) -> bool:
+    """Whether the poll says so that is not sealed yet; one that can't be read says nothing."""
+    if election.path(TELLERS).exists():
+        return False
+    with contextlib.suppress(Fault):
+        drafts = (draft_in(election, label) for label in labels_in(election.folder))
+        return any(draft.says("secret") for draft in drafts)
+    return False
 
 
 def page(now: Now) -> Iterator[Due]:

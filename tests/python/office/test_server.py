@@ -215,7 +215,8 @@ class BeginAndEnd(ElectionTest):
         self.assertIn("In Vorbereitung", text)
         other = offices.Office(self, folder="")
         self.assertIn(str(made), other.page())
-        self.assertIn("another office", other.post("folder", folder=str(made)))
+        # a link leads to the page that has it
+        self.assertIn(f'href="{office.address}"', other.post("folder", folder=str(made)))
         self.assertIn("0 of 9", offices.seen(other.post("folder", folder=str(self.folder))))
 
     def test_pages_and_commands_leave_nothing_open(self):
