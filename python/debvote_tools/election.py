@@ -2,7 +2,6 @@
 
 import datetime
 import functools
-import os
 import pathlib
 import shlex
 from collections.abc import Sequence
@@ -377,7 +376,4 @@ def no_book(folder: pathlib.Path) -> Fault:
     elif (place.parent / BOOK_FILE).is_file() and place.name in MADE:
         words = "the election is one folder up"
         cure = "go there with cd .., then run the command again"
-    elif any(os.path.lexists(folder / name) for name in ("journal", "ballots", "received")):
-        words = "it is an election of debvote-election 1.x, which only 1.x can finish"
-        cure = "install the version that began it, or begin anew in another folder"
     return bad_words(folder, words, cure, None)

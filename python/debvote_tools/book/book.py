@@ -33,11 +33,9 @@ AGAIN = "run the command again"
 MOVED: Final = "moved"
 RESTORED = "it was restored, as the secretary says"
 
-# "dbvt"; the version of the schema, and of what is kept of letters as JSON; and the program that
-# wrote the books of an earlier version
+# "dbvt"; and the version of the schema, and of what is kept of letters as JSON
 APPLICATION_ID = 0x64627674
-VERSION = 7
-PROGRAMS = {3: "debvote-election 2.0.0", 4: "debvote-election 2.1.0"}
+VERSION = 1
 
 # how a database of SQLite begins, how many bytes say what it is, and where these have the version
 # and the application id
@@ -488,10 +486,7 @@ def demand_version(path: pathlib.Path) -> None:
         raise bad_words(path, "it is a database of another program", cure, None)
     version = int.from_bytes(head[VERSION_AT], "big")
     if version != VERSION:
-        whose = f" of {PROGRAMS[version]}" if version in PROGRAMS else ""
-        reason = (
-            f"it is a book{whose} (version {version}), and this program writes version {VERSION}"
-        )
+        reason = f"it is a book of version {version}, and this program writes version {VERSION}"
         raise bad_words(path, reason, "use the debvote-election that began this election")
 
 

@@ -123,7 +123,6 @@ def reader_of(kind: Any) -> Callable[[Any], Any]:
     """Makes a value of this type from what JSON has of it."""
     if dataclasses.is_dataclass(kind):
         fields = {name: reader_of(field) for name, field in typing.get_type_hints(kind).items()}
-        # a book of an earlier version may know more of a letter
         return lambda kept: kind(
             **{name: read(kept[name]) for name, read in fields.items() if name in kept}
         )

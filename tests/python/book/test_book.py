@@ -936,10 +936,6 @@ class Places(BookTest):
         self.assert_fault(
             self.election("status", "--folder", "nowhere"), 2, "nowhere", "no such folder"
         )
-        old = self.scratch / "old"
-        old.mkdir()
-        (old / "journal").write_text("")
-        self.assert_fault(self.election("status", cwd=old), 2, "debvote-election 1.x")
 
     def test_other_databases(self):
         with sqlite3.connect(self.folder / "other.db") as connection:
@@ -949,20 +945,13 @@ class Places(BookTest):
         with sqlite3.connect(self.book) as connection:
             connection.execute(f"PRAGMA application_id = {0x64627674}")
             connection.execute("PRAGMA user_version = 2")
-        self.assert_fault(
-            self.election("status"),
-            2,
-            "it is a book (version 2), and this program writes version 7",
-        )
-        # a book of 2.0.0 is refused by name, and not opened: what a command that was cut off left stays, too
-        with contextlib.closing(sqlite3.connect(self.book)) as connection:
-            connection.execute("PRAGMA user_version = 3")
+        # it is not opened: what a command that was cut off left stays, too
         (self.folder / "election.db-journal").write_bytes(
             b"what a command that was cut off has left"
         )
         self.write("more", "hal 1,2,3,4\n")
         before = self.contents()
-        said = "it is a book of debvote-election 2.0.0 (version 3)"
+        said = "it is a book of version 2, and this program writes version 1"
         for words in (("status",), ("add", "--yes", "more")):
             self.assert_fault(self.election(*words), 2, said, elections.nothing_by(words))
             self.assertEqual(self.contents(), before)

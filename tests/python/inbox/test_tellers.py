@@ -183,7 +183,9 @@ class WholeVote(teller_elections.TellerElectionTest):
         self.assertEqual(typed, ["1,-,-,-", "1,1,1,2", "1,2,-,3", "2,1,3,4", "2,1,3,4"])
         self.refused("count", "the tellers have not opened all layers yet")
         office = offices.Office(self)
-        self.assertRegex(offices.seen(office.page()), "carla opens /.*/urn/list-0.txt , in the hall")
+        self.assertRegex(
+            offices.seen(office.page()), "carla opens /.*/urn/list-0.txt , in the hall"
+        )
         self.opened()
         paper = self.read("private/paper.txt").decode().splitlines()
         self.assertEqual(self.ballots(), sorted([*self.lines.values(), *paper]))
