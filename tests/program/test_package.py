@@ -12,6 +12,8 @@ import unittest
 
 import pytest
 
+from debvote_tools.text.language import LANGUAGES
+
 from tests.support import unproved
 from tests.support.program import PROGRAM, ROOT
 
@@ -87,7 +89,8 @@ class Package(unittest.TestCase):
             for file in (share / "debvote").rglob("*")
             if file.is_file()
         }
-        beside = {pathlib.Path(name) for name in ("READING-A-SHEET.md", "recount.py")}
+        pages = [f"debvote_tools/call/teller-{code}.html" for code in LANGUAGES]
+        beside = {pathlib.Path(name) for name in ("READING-A-SHEET.md", "recount.py", *pages)}
         self.assertEqual(found, wanted | beside)
         documents = share / "doc" / "debvote"
         for name in (

