@@ -287,8 +287,23 @@ def with_answers(envelope: Envelope, became: Mapping[str, str]) -> Envelope:
 
 
 def lost(book: Book) -> list[Envelope]:
-    """The ballots that were entered and do not count any more since an `undo`, as the view says."""
-    return [one for one in envelopes(book, "envelope IN lost") if one.by_question]
+    """The ballots that were entered and do not count any more since an `undo`, as the view says; of
+    several questions if one of their answers does not.
+    """
+    query = "SELECT envelope FROM lost"
+    gone = {(number, label) for label in each_question_alone(book) for number, in book.rows(query)}
+    chosen = "envelope IN (SELECT value FROM json_each(?))"
+    found = envelopes(book, chosen, json.dumps([number for number, _ in gone]))
+    return [
+        one._replace(
+            by_question={
+                label: became
+                for label, became in one.by_question.items()
+                if (one.number, label) in gone
+            }
+        )
+        for one in found
+    ]
 
 
 def undone_acts(book: Book) -> set[int]:
