@@ -13,9 +13,9 @@ from collections.abc import Callable, Collection, Iterator, Mapping, Sequence
 from typing import Any, TypeVar
 
 from debvote_tools.book import queries
-from debvote_tools.book.queries import Elector, EnteredBallot, OwnMark
+from debvote_tools.book.queries import Elector, EnteredBallot, OwnMark, TimedBallot
 from debvote_tools.debvote import findings_in
-from debvote_tools.inbox.judging import Ballot, BallotsByElector, ElectorBallots, judge_all
+from debvote_tools.inbox.judging import BallotsByElector, ElectorBallots, judge_all
 from debvote_tools.inbox.letter import ParsedLetter, parse
 from debvote_tools.inbox.letter_lines import Names, ReadLetter, from_json, to_json, with_texts
 from debvote_tools.inbox.lines import repaired_but_for_name, with_small_name
@@ -26,6 +26,7 @@ from debvote_tools.poll.questions import LONGEST_LINE
 from debvote_tools.poll.sealed import in_brackets
 
 from debvote_tools.text.answers import answer_pattern
+from debvote_tools.text.ballots import Ballot
 
 from tests.support import elections
 from tests.support.program import PROGRAM, ROOT
@@ -48,6 +49,10 @@ TEN = "Mon, 23 Nov 2026 10:00:00 +0000"
 
 def at(hour: int, minute: int = 0, day: int = 23) -> datetime.datetime:
     return datetime.datetime(2026, 11, day, hour, minute, tzinfo=datetime.UTC)
+
+
+def at_time(time: datetime.datetime, line: str, *others: Any) -> TimedBallot:
+    return TimedBallot(time, Ballot(line), *others)
 
 
 class DebvoteReader:
@@ -268,7 +273,7 @@ def varied(
 def judged(
     *letters: bytes | ParsedLetter,
     reader: DebvoteReader | None = None,
-    ballots: Mapping[str, Sequence[Ballot]] | None = None,
+    ballots: Mapping[str, Sequence[TimedBallot]] | None = None,
     decisions: Mapping[str, str] = {},
     **other: object,
 ) -> list[LetterCase]:
@@ -292,7 +297,7 @@ def case(name: str, text: str, **how: object) -> LetterCase:
     return one
 
 
-def in_order(ballots: Mapping[str, Sequence[Ballot]]) -> BallotsByElector:
+def in_order(ballots: Mapping[str, Sequence[TimedBallot]]) -> BallotsByElector:
     """The ballots of electors, as the book gives them."""
     return BallotsByElector(
         ElectorBallots,
@@ -313,7 +318,7 @@ def case_of(one: ReadLetter, now: Circumstances, state: str | None) -> LetterCas
     is_typed = not case.ballots
     ballot = EnteredBallot(
         1,
-        BALLOT,
+        Ballot(BALLOT),
         is_late=False,
         is_struck=is_struck,
         is_taken_back=is_taken_back,
@@ -363,7 +368,7 @@ def outcome(one: LetterCase) -> str:
     its sentence needs.
     """
     if one.outcome is LetterOutcome.GOES_IN:
-        return f"in: {one.ballots[0].as_entered}"
+        return f"in: {one.ballots[0].ballot.line}"
     if one.reason is None:
         return one.outcome.value
     for_secretary(one.reason)
@@ -384,7 +389,7 @@ def outcomes(*letters: bytes | ParsedLetter, **other: object) -> list[str]:
 
 def lines_in(*letters: bytes | ParsedLetter, **other: object) -> list[str]:
     return [
-        one.ballots[0].as_entered
+        one.ballots[0].ballot.line
         for one in judged(*letters, **other)
         if one.outcome is LetterOutcome.GOES_IN
     ]

@@ -14,7 +14,7 @@ from typing import Final, NamedTuple
 
 from debvote_tools.book.book import Book, NewAct, as_text, from_text
 from debvote_tools.grouping import grouped
-from debvote_tools.text.ballots import answers_in, answers_of, answers_text, differ
+from debvote_tools.text.ballots import Ballot, answers_text
 
 
 # ---- electors
@@ -188,44 +188,40 @@ class Envelope(NamedTuple):
 NEXT: Final = sys.maxsize
 
 
-class Ballot(NamedTuple):
+class TimedBallot(NamedTuple):
     """A ballot that was entered in time and is not struck, or that goes in or is passed over: its
-    time, in whole seconds, its line, whether it came by letter, by how many seconds the clock was
-    behind that gave it, and its envelope.
+    time, in whole seconds, whether it came by letter, by how many seconds the clock was behind that
+    gave it, and its envelope.
     """
 
     time: datetime.datetime
-    line: str
+    ballot: Ballot
     is_by_letter: bool = False
     behind: int = 0
     number: int = NEXT
     # of a click in a vote with tellers what is sealed to them: the line of each is the same
     block: str = ""
 
-    def may_turn(self, other: "Ballot") -> bool:
+    def may_turn(self, other: "TimedBallot") -> bool:
         """Whether by the clock of this computer it may stand on the other side of another
         ballot.
         """
         ours, theirs = (one.time + datetime.timedelta(seconds=one.behind) for one in (self, other))
-        are_other = self.block != other.block or differ(self.line, other.line)
+        are_other = self.block != other.block or self.ballot.differs(other.ballot)
         return (self.time < other.time) != (ours < theirs) and are_other
-
-    @property
-    def elector(self) -> str:
-        return self.line.partition(" ")[0]
 
     @property
     def answers(self) -> Mapping[str, str]:
         """By the labels of the questions, what two ballots that are alike have in common."""
-        return {"": self.line + self.block} if self.block else answers_of(self.line)
+        return {"": self.ballot.line + self.block} if self.block else self.ballot.ranks
 
     @property
     def labels(self) -> Set[str]:
         """Those of the questions that it answers."""
-        return answers_of(self.line).keys()
+        return self.ballot.ranks.keys()
 
 
-def by_time(ballot: Ballot) -> tuple[datetime.datetime, int]:
+def by_time(ballot: TimedBallot) -> tuple[datetime.datetime, int]:
     """The order in which one ballot is later than another: by their times; of the same time, by
     their envelopes. A letter has the time at which it arrived, or was signed; a line, and a letter
     of which that is not known, has that of the act that entered it.
@@ -393,21 +389,12 @@ class EnteredBallot(NamedTuple):
     """
 
     number: int
-    line: str
+    ballot: Ballot
     is_late: bool
     is_struck: bool
     is_taken_back: bool
     # by `held --as`
     is_typed: bool
-
-    @property
-    def elector(self) -> str:
-        return self.line.partition(" ")[0]
-
-    @property
-    def answers(self) -> set[tuple[str, str]]:
-        """The elector with the label of each answer."""
-        return answers_in(self.line)
 
 
 def entered_ballots(book: Book, letters: Sequence[int]) -> dict[int, list[EnteredBallot]]:
@@ -419,7 +406,9 @@ def entered_ballots(book: Book, letters: Sequence[int]) -> dict[int, list[Entere
       FROM entered WHERE letter IN (SELECT value FROM json_each(?)) ORDER BY envelope
     """
     rows = book.rows(query, json.dumps(letters))
-    return grouped((letter, EnteredBallot(*ballot)) for letter, *ballot in rows)
+    return grouped(
+        (letter, EnteredBallot(number, Ballot(line), *fate)) for letter, number, line, *fate in rows
+    )
 
 
 # ---- lines by act, and those that came in files
@@ -466,7 +455,7 @@ def envelopes_of(
     return envelopes(book, f"{condition} AND {some}", *values)
 
 
-def ballots_of(book: Book, names: Collection[str]) -> dict[str, list[Ballot]]:
+def ballots_of(book: Book, names: Collection[str]) -> dict[str, list[TimedBallot]]:
     """The ballots of some electors by name, in the order `by_time`: those that were entered in time
     and are not struck. What is late is later than nothing.
     """
@@ -480,7 +469,10 @@ def ballots_of(book: Book, names: Collection[str]) -> dict[str, list[Ballot]]:
       ) USING (letter) WHERE {some} ORDER BY time, envelope
     """
     rows = book.rows(query, *values)
-    return grouped((name, Ballot(from_text(time), *ballot)) for name, time, *ballot in rows)
+    return grouped(
+        (name, TimedBallot(from_text(time), Ballot(line), *others))
+        for name, time, line, *others in rows
+    )
 
 
 def what_counts(

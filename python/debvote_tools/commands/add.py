@@ -316,7 +316,7 @@ def change_since(line: CheckedLine, came: Envelope, since: Counting) -> str | No
         own = part_of(line.as_entered, label)
         number, part = since.get((came.elector or 0, label), (0, own))
         if became == "replaced" and part != own:
-            return f"{line.voter} has voted since (envelope {number})"
+            return f"{line.ballot.elector} has voted since (envelope {number})"
     if came.is_struck:
         return f"was {came.became} (envelope {came.number})"
     return None
@@ -371,7 +371,7 @@ def faults_of_lines(vote: Vote, new: NewLines, arguments: Arguments) -> Iterator
             older, newer = pair
             yield Fault(
                 file.name,
-                f"the ballot of {older.voter} in line {older.original.number} is older than that in line {newer.original.number}, which came before, and would replace it",
+                f"the ballot of {older.ballot.elector} in line {older.original.number} is older than that in line {newer.original.number}, which came before, and would replace it",
                 f"take the older ballot out, or {FORCE}",
             )
 
@@ -413,12 +413,13 @@ def new_one_above(file: ComparedLines) -> tuple[CheckedLine, CheckedLine] | None
     new = {line.original.number for line in file.new} if file.repeated else set()
     above = dict[tuple[str, str], CheckedLine]()
     for line in filter(is_ballot, file.lines if new else ()):
-        for label, ranks in line.answers.items():
-            ballot = above.get((line.voter, label), line)
+        ballot = line.ballot
+        for label, ranks in ballot.ranks.items():
+            older = above.get((ballot.elector, label), line)
             if line.original.number in new:
-                above[line.voter, label] = line
-            elif ballot.answers[label] != ranks:
-                return ballot, line
+                above[ballot.elector, label] = line
+            elif older.ballot.ranks[label] != ranks:
+                return older, line
     return None
 
 

@@ -31,7 +31,7 @@ from debvote_tools.inbox.lines import Line, Names, lines_in
 from debvote_tools.inbox.vote import CheckedLine, Vote, change_words, summary
 from debvote_tools.outbox.steps import tell_next
 from debvote_tools.poll.plain_names import alike
-from debvote_tools.text.ballots import answers_text, ranks_by_label
+from debvote_tools.text.ballots import Ballot
 from debvote_tools.text.language import ENGLISH
 from debvote_tools.text.motions import Words
 
@@ -212,7 +212,7 @@ class Casting(entering.Entry):
             return
         # what was asked about was shown in words
         for number, reply, line in zip(numbers, replies, self.lines):
-            said = line.voter if line.is_ballot else shown_line(line.as_entered)
+            said = line.ballot.elector if line.is_ballot else shown_line(line.as_entered)
             yield f"{number} {reply}  {said}"
 
 
@@ -470,23 +470,19 @@ def question(
     if ballots and is_late:
         shown.append("It is late, and will not count.")
     elif ballots and elector is not None:
-        shown += earlier_words(desk.vote, ballots[0], elector)
+        shown += earlier_words(desk.vote, ballots[0].ballot, elector)
     if ballots == lines:
         return shown, "Enter it?"
     return shown, "What is refused does not count. Type the line anew, or enter to enter it so: "
 
 
-def earlier_words(vote: Vote, ballot: CheckedLine, elector: int) -> Iterator[str]:
+def earlier_words(vote: Vote, ballot: Ballot, elector: int) -> Iterator[str]:
     """What a ballot would replace, and which answers to other questions stay."""
-    counting = queries.what_counts(vote.book, {elector})
-    earlier = ranks_by_label(counting.get(ballot.voter, ""))
-    replaced, stays = (
-        {label: ranks for label, ranks in earlier.items() if (label in ballot.answers) is is_new}
-        for is_new in (True, False)
-    )
-    if replaced:
-        words = f"{ballot.voter} has a ballot, which will be replaced"
-        yield vote.with_answers(words, answers_text(replaced))
-    if stays:
-        words = f"The earlier answers of {ballot.voter} to {ENGLISH.joined(sorted(stays))} stay"
-        yield vote.with_answers(words, answers_text(stays))
+    name = ballot.elector
+    earlier = Ballot(f"{name} {queries.what_counts(vote.book, {elector}).get(name, '')}")
+    stays = earlier.without(ballot.ranks)
+    if replaced := earlier.without(stays.ranks).answers:
+        yield vote.with_answers(f"{name} has a ballot, which will be replaced", replaced)
+    if stays.ranks:
+        words = f"The earlier answers of {name} to {ENGLISH.joined(sorted(stays.ranks))} stay"
+        yield vote.with_answers(words, stays.answers)

@@ -10,7 +10,7 @@ from typing import NamedTuple
 from debvote_tools.book import queries
 from debvote_tools.book.book import ActName
 from debvote_tools.book.change import Change, carried_out, terminal_question
-from debvote_tools.book.queries import Ballot, EnteredBallot
+from debvote_tools.book.queries import EnteredBallot, TimedBallot
 from debvote_tools.call.call import current_call
 from debvote_tools.cli.arguments import Acting, flag, given, option, positional
 from debvote_tools.cli.console import (
@@ -43,7 +43,7 @@ from debvote_tools.inbox.stopping import other_votes_words
 from debvote_tools.inbox.taking import LetterEntry, envelope_of
 from debvote_tools.inbox.vote import Vote
 from debvote_tools.outbox.words import Composer
-from debvote_tools.text.ballots import differ, without
+from debvote_tools.text.ballots import Ballot
 from debvote_tools.text.language import ENGLISH
 
 # what --force is for
@@ -164,7 +164,7 @@ def left_words(vote: Vote, letter: LetterCase) -> Iterator[str]:
     """Which electors have no ballot of a letter that was entered, if it may have those of
     several.
     """
-    electors = {*letter.sharing, *(line.elector for line in letter.proposals)}
+    electors = {*letter.sharing, *(line.ballot.elector for line in letter.proposals)}
     entered = {elector for elector, _ in letter.entered_answers}
     if len(electors) > 1 and letter.outcome is LetterOutcome.ENTERED:
         for elector in sorted(electors - entered):
@@ -242,8 +242,8 @@ class Chosen(NamedTuple):
     def again(self) -> list[EnteredBallot]:
         """Those in which answers of these ballots were entered already."""
         entered = self.letter.entered_answers
-        answers = (answer for line in self.lines for answer in line.answers)
-        return [*dict.fromkeys(entered[answer] for answer in answers if answer in entered)]
+        parts = (part for line in self.lines for part in line.ballot.parts)
+        return [*dict.fromkeys(entered[part] for part in parts if part in entered)]
 
 
 def enter(vote: Vote, arguments: Arguments) -> None:
@@ -275,7 +275,7 @@ def what_is_entered(
     forced = frozenset(arguments.force or ())
     faults = list[Fault]()
     chosen = chosen_ballots(named, typed, faults)
-    beside = ballots_in(vote, {line.elector for one in chosen for line in one.lines})
+    beside = ballots_in(vote, {line.ballot.elector for one in chosen for line in one.lines})
     faults += why_not_now(vote, history, chosen)
     # of what was entered nothing more is said: no --force enters it again
     not_entered = [one for one in chosen if not one.again]
@@ -322,7 +322,7 @@ def entry_of(
         question=terminal_question(f"{more}Enter {count_of(len(ballots), 'ballot')}?", is_agreed),
         letters=dict.fromkeys(numbers, queries.ENTERED),
         vote=vote,
-        envelopes=[envelope_of(letter, line.as_entered) for letter, line in ballots],
+        envelopes=[envelope_of(letter, line.ballot) for letter, line in ballots],
         is_late=is_late,
     )
 
@@ -334,8 +334,9 @@ def shown(vote: Vote, one: Chosen) -> Iterator[str]:
     if is_whole:
         yield from letter_words.whole(letter, ours(vote, letter))
     for line in one.lines:
-        said = f"{vote.ballot_in_words(line.as_entered)}{quoted_words(letter, line)}"
-        yield said if is_whole else f"{who_and_when(letter)}: {said}\n  {why(letter, line.elector)}"
+        said = f"{vote.ballot_in_words(line.ballot)}{quoted_words(letter, line)}"
+        elector = line.ballot.elector
+        yield said if is_whole else f"{who_and_when(letter)}: {said}\n  {why(letter, elector)}"
 
 
 def ours(vote: Vote, letter: LetterCase) -> Callable[[str], bool]:
@@ -376,13 +377,13 @@ def typed_ballots(vote: Vote, texts: Sequence[str], sender: str) -> list[BallotL
     return [BallotLine(0, typed_ballot(vote, text, sender)) for text in texts]
 
 
-def typed_ballot(vote: Vote, text: str, sender: str) -> str:
+def typed_ballot(vote: Vote, text: str, sender: str) -> Ballot:
     try:
-        return ballot_of(vote, text)
+        return ballot_in_typed(vote, text)
     except Fault:
         with contextlib.suppress(Fault):
             if sender:
-                return ballot_of(vote, f"{sender} {vote.names.loose(text)}")
+                return ballot_in_typed(vote, f"{sender} {vote.names.loose(text)}")
         raise
 
 
@@ -390,7 +391,7 @@ def lines_of(vote: Vote, text: str) -> list[Line]:
     return lines_in(text.encode("utf-8", "surrogateescape"), "--as", vote.questions.longest_line)
 
 
-def ballot_of(vote: Vote, text: str) -> str:
+def ballot_in_typed(vote: Vote, text: str) -> Ballot:
     """The ballot in what was typed."""
     lines = lines_of(vote, text)
     answer = "it is not one line"
@@ -398,7 +399,7 @@ def ballot_of(vote: Vote, text: str) -> str:
         # of several answers the last line is one that is refused
         *_, line = vote.checked_lines(lines)
         if (finding := line.lasting) is None:
-            return line.as_entered.decode("ascii")
+            return line.ballot
         answer = private(line.why_unclear or finding.answer)
     raise Fault(
         "--as",
@@ -420,8 +421,8 @@ def the_ballots(letter: LetterCase) -> Sequence[BallotLine]:
 
 def demand_one_answer(letter: LetterCase, lines: Sequence[BallotLine]) -> None:
     """Stops if several of these lines answer one question for one elector."""
-    answers = itertools.chain.from_iterable(line.answers for line in lines)
-    [((elector, _), count)] = collections.Counter(answers).most_common(1)
+    parts = itertools.chain.from_iterable(line.ballot.parts for line in lines)
+    [((elector, _), count)] = collections.Counter(parts).most_common(1)
     if count > 1:
         raise Fault(
             name_of(letter),
@@ -437,9 +438,9 @@ def why_not_now(vote: Vote, history: History, chosen: Sequence[Chosen]) -> Itera
         letter = one.letter
         name = name_of(letter)
         if again := one.again:
-            words = f"its ballot of {ENGLISH.joined(dict.fromkeys(ballot.elector for ballot in again))} was entered"
+            words = f"its ballot of {ENGLISH.joined(dict.fromkeys(one.ballot.elector for one in again))} was entered"
             # who reads that there is nothing to do takes it for one that counts
-            if any(ballot.is_late for ballot in again):
+            if any(one.is_late for one in again):
                 words = f"{words}, and is late"
             yield Fault(name, words, what_then(vote, letter, one.lines, again))
         elif letter.outcome is LetterOutcome.PASSED_OVER and letter.reason:
@@ -465,10 +466,11 @@ def what_then(
     vote: Vote, letter: LetterCase, lines: Sequence[BallotLine], again: Sequence[EnteredBallot]
 ) -> str:
     """What is done in place of entering what was entered already."""
-    if {line.elector for line in lines} - {ballot.elector for ballot in again}:
+    by_elector = grouped((old.ballot.elector, old) for old in again)
+    if not all(line.ballot.elector in by_elector for line in lines):
         return "leave it out"
-    pairs = ((line, old) for line in lines for old in again if line.elector == old.elector)
-    if other := next((old for line, old in pairs if differ(line.as_entered, old.line)), None):
+    pairs = ((line.ballot, old) for line in lines for old in by_elector[line.ballot.elector])
+    if other := next((old for ballot, old in pairs if ballot.differs(old.ballot)), None):
         # then no strike is taken, either
         if letter.circumstances.is_closed:
             return f"the vote is closed, and its ballots stay; if this one is wrong, see {vote.election.command('reopen')}"
@@ -486,10 +488,11 @@ def why_not_unforced(chosen: Sequence[Chosen], forced: Set[str]) -> Iterator[Fau
             words, _, advice = for_secretary(why_other).partition("; ")
             yield Fault(name_of(letter), words, f"{advice}; {FORCE.format(NOT_TIED)}")
         for line in lines:
-            if not (letter.is_tied(line.elector) or (line.number and letter.is_of_couple)):
+            elector = line.ballot.elector
+            if not (letter.is_tied(elector) or (line.number and letter.is_of_couple)):
                 yield Fault(
                     name_of(letter),
-                    f"its sender and its subject do not show that it is of {line.elector}",
+                    f"its sender and its subject do not show that it is of {elector}",
                     f"check who sent it; {FORCE.format(NOT_TIED)}",
                 )
 
@@ -502,20 +505,23 @@ def why_not_beside(
     """
     for letter, lines in chosen:
         for line in lines:
-            ballot = ballot_in(letter, line.as_entered)
-            beside = by_elector[line.elector]
+            ballot = ballot_in(letter, line.ballot)
+            beside = by_elector[line.ballot.elector]
             later = beside.later(ballot)
-            if later and (others := without(line.as_entered, later)):
+            others = line.ballot.without(later)
+            if later and others.ranks:
                 words = f"its elector has later answers to {ENGLISH.joined(sorted(later))}"
-                cure = vote.election.command("held", str(letter.number), "--as", private(others))
+                cure = vote.election.command(
+                    "held", str(letter.number), "--as", private(others.line)
+                )
                 yield Fault(name_of(letter), words, f"enter the others: {cure}")
             elif VOTED_SINCE not in forced and (words := why_unsure(letter, beside, ballot)):
                 yield Fault(name_of(letter), words, FORCE.format(VOTED_SINCE))
         for line in lines:
-            by_elector[line.elector].add(ballot_in(letter, line.as_entered))
+            by_elector[line.ballot.elector].add(ballot_in(letter, line.ballot))
 
 
-def why_unsure(letter: LetterCase, beside: ElectorBallots, ballot: Ballot) -> str:
+def why_unsure(letter: LetterCase, beside: ElectorBallots, ballot: TimedBallot) -> str:
     """Why a ballot beside others of its elector is entered by force alone; empty if it is not."""
     has_voted = beside.has_voted_since(ballot)
     if has_voted:
@@ -549,9 +555,9 @@ def why_typed_again(
         (letter.read.identity, ballot) for letter in letters for ballot in letter.entered
     )
     for letter, lines in chosen:
-        ballots = sorted(entered.get(letter.read.identity, ()), key=lambda ballot: ballot.number)
-        typed_last = {ballot.elector: ballot.is_typed for ballot in ballots}
-        if any(line.number and typed_last.get(line.elector) for line in lines):
+        ballots = sorted(entered.get(letter.read.identity, ()), key=lambda one: one.number)
+        typed_last = {one.ballot.elector: one.is_typed for one in ballots}
+        if any(line.number and typed_last.get(line.ballot.elector) for line in lines):
             words = "its ballot was typed"
             if letter.kept.state == queries.TAKEN_BACK:
                 words += ", and taken back"

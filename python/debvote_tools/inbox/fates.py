@@ -12,6 +12,7 @@ from debvote_tools.grouping import grouped
 from debvote_tools.inbox.judging import judged
 from debvote_tools.inbox.rules import LetterCase, LetterOutcome
 from debvote_tools.inbox.vote import Vote
+from debvote_tools.text.ballots import Ballot
 
 # what belongs to no elector has this in place of a name
 NOBODY = ""
@@ -56,7 +57,7 @@ class Fate(NamedTuple):
         """What a valid ballot has behind the name."""
         if self.envelope is None or self.why_refused is not None:
             return ""
-        return self.envelope.line.decode().partition(" ")[2]
+        return Ballot(self.envelope.line.decode()).answers
 
 
 def fates_of(

@@ -15,7 +15,7 @@ from typing import Any
 
 from debvote_tools.book import queries
 from debvote_tools.book.book import Book
-from debvote_tools.book.queries import Ballot, KeptLetter
+from debvote_tools.book.queries import KeptLetter, TimedBallot
 from debvote_tools.call.tellers import ON_PAPER
 from debvote_tools.election import BOX_KEY, KEYRING, History
 from debvote_tools.grouping import grouped
@@ -31,6 +31,7 @@ from debvote_tools.inbox.rules import (
 )
 from debvote_tools.inbox.vote import Vote
 from debvote_tools.text import times
+from debvote_tools.text.ballots import Ballot
 
 # what becomes of a letter, and why it waits or was set aside
 Judgement = tuple[LetterOutcome, ReasonWithValues | None]
@@ -52,14 +53,14 @@ class ElectorBallots:
     few.
     """
 
-    def __init__(self, ballots: Iterable[Ballot] = ()) -> None:
+    def __init__(self, ballots: Iterable[TimedBallot] = ()) -> None:
         # in the order `queries.by_time`: all; by the labels of their answers; and by how far the
         # clock of each was behind
         self.every = [*ballots]
         self.by_label = grouped((label, ballot) for ballot in self.every for label in ballot.labels)
         self.by_clock = grouped((ballot.behind, ballot) for ballot in self.every)
 
-    def add(self, ballot: Ballot) -> None:
+    def add(self, ballot: TimedBallot) -> None:
         by_label = (self.by_label.setdefault(label, []) for label in ballot.labels)
         for ballots in (self.every, *by_label, self.by_clock.setdefault(ballot.behind, [])):
             bisect.insort(ballots, ballot, key=queries.by_time)
@@ -78,13 +79,13 @@ class ElectorBallots:
                 ends += [len(ends) + len(alike)] * len(alike)
         return next_others
 
-    def labels_of(self, own: Ballot) -> Set[str]:
+    def labels_of(self, own: TimedBallot) -> Set[str]:
         """Those of the questions that a ballot of a letter answers, or of all if it is not known,
         to which there are answers.
         """
         return self.by_label.keys() & (own.labels or self.by_label.keys())
 
-    def later(self, own: Ballot, *, by_letter: bool = False) -> dict[str, Ballot]:
+    def later(self, own: TimedBallot, *, by_letter: bool = False) -> dict[str, TimedBallot]:
         """The last ballots that are later than one in a letter, by whichever clock, by the labels
         of its questions: all, or those that came by letter; nothing where its time is not known.
         """
@@ -98,7 +99,7 @@ class ElectorBallots:
                     break
         return last_later
 
-    def has_voted_since(self, own: Ballot) -> bool | None:
+    def has_voted_since(self, own: TimedBallot) -> bool | None:
         """Whether it is sure that the elector has a later ballot than one in a letter, which
         answers one of the same questions; None if they have none. Where its time is not known, each
         may be later.
@@ -110,11 +111,11 @@ class ElectorBallots:
 
     def first_other(
         self,
-        own: Ballot,
+        own: TimedBallot,
         begin: datetime.datetime,
         end: datetime.datetime,
         known: Collection[int] = (),
-    ) -> Ballot | None:
+    ) -> TimedBallot | None:
         """The first one from a time until before another one, but for these envelopes, that answers
         a question in another way than a ballot. Of thousands that are alike it looks at one.
         """
@@ -130,16 +131,16 @@ class ElectorBallots:
                 at = at + 1 if is_other else self.next_others[label][at]
         return min(others, key=queries.by_time) if others else None
 
-    def has_other_at_once(self, own: Ballot) -> bool:
+    def has_other_at_once(self, own: TimedBallot) -> bool:
         """Whether another answer to a question has the same time as one in a ballot of a letter."""
         end = own.time + datetime.timedelta(seconds=1)
         return self.first_other(own, own.time, end) is not None
 
-    def turned(self, own: Ballot) -> Ballot | None:
+    def turned(self, own: TimedBallot) -> TimedBallot | None:
         """The first one that may stand on the other side of a ballot by the clock of this computer:
         of each other clock only those may whose times are within the difference.
         """
-        turned = list[Ballot]()
+        turned = list[TimedBallot]()
         for behind, ballots in self.by_clock.items():
             by_its_clock = own.time + datetime.timedelta(seconds=own.behind - behind)
             within = sorted((own.time, by_its_clock))
@@ -167,7 +168,7 @@ def judged(
     ]
     cases += (LetterCase(read, circumstances) for read in previewed)
     names = {elector for case in cases for elector in case.electors}
-    names.update(ballot.elector for case in cases for ballot in case.entered)
+    names.update(one.ballot.elector for case in cases for one in case.entered)
     return judge_all(cases, ballots_in(vote, names))
 
 
@@ -279,12 +280,13 @@ def judge_all(cases: Iterable[LetterCase], by_elector: BallotsByElector) -> list
     return cases
 
 
-def ballot_in(case: LetterCase, ballot: str) -> Ballot:
+def ballot_in(case: LetterCase, ballot: Ballot) -> TimedBallot:
     """A ballot of a letter beside others. Where its time is not known it has the one of now, as
     when it is entered.
     """
     time = case.time or case.circumstances.now
-    return Ballot(time, ballot, case.time is not None, case.read.behind, block=case.read.block)
+    is_by_letter = case.time is not None
+    return TimedBallot(time, ballot, is_by_letter, case.read.behind, block=case.read.block)
 
 
 def voted_since(case: LetterCase, by_elector: BallotsByElector) -> dict[str, bool]:
@@ -293,9 +295,9 @@ def voted_since(case: LetterCase, by_elector: BallotsByElector) -> dict[str, boo
     """
     since: dict[str, bool] = {}
     for elector in case.electors:
-        lines = [ballot.as_entered for ballot in case.ballots if ballot.elector == elector]
-        for line in lines or [""]:
-            is_sure = by_elector[elector].has_voted_since(ballot_in(case, line))
+        ballots = [line.ballot for line in case.ballots if line.ballot.elector == elector]
+        for ballot in ballots or [Ballot("")]:
+            is_sure = by_elector[elector].has_voted_since(ballot_in(case, ballot))
             if is_sure is not None:
                 since[elector] = is_sure or since.get(elector, False)
     return since
@@ -317,9 +319,7 @@ def judge_originals(
     """Judges the letters that break no rule, by their times, and puts the ballots of those that do
     not wait to the others of their electors.
     """
-    in_order = {
-        case: ballot_in(case, case.sole_ballot.as_entered) for case in cases if case in originals
-    }
+    in_order = {case: ballot_in(case, case.sole_line.ballot) for case in cases if case in originals}
     of_letters = grouped((case.elector, own) for case, own in in_order.items())
     # also those of letters that wait
     every = {
@@ -328,10 +328,10 @@ def judge_originals(
     }
     # copies of these are not known as such, while gpgv does not answer
     unchecked = {
-        ballot.as_entered
+        line.ballot
         for case in cases
         if case.is_decided and case.read.is_slow
-        for ballot in case.ballots
+        for line in case.ballots
     }
     for case, own in in_order.items():
         ballots = by_elector[case.elector]
@@ -340,7 +340,7 @@ def judge_originals(
             own,
             ballots,
             has_other_at_once=every[case.elector].has_other_at_once(own),
-            is_unchecked=own.line in unchecked,
+            is_unchecked=own.ballot in unchecked,
         )
         if case.outcome is not LetterOutcome.WAITS:
             ballots.add(own)
@@ -348,7 +348,7 @@ def judge_originals(
 
 def outcome_of_original(
     case: LetterCase,
-    own: Ballot,
+    own: TimedBallot,
     ballots: ElectorBallots,
     *,
     has_other_at_once: bool,
@@ -415,10 +415,9 @@ def outcome_of_copy(
     begin, end = sorted((original.time, case.time))
     # not what was typed for it, nor another line of it
     known = {ballot.number for ballot in original.entered}
-    typed = (ballot.line for ballot in original.not_taken_back if ballot.is_typed)
-    for line in (*(ballot.as_entered for ballot in case.ballots), *typed):
-        own = ballot_in(original, line)
-        elector = own.elector
+    typed = (one.ballot for one in original.not_taken_back if one.is_typed)
+    for ballot in (*(line.ballot for line in case.ballots), *typed):
+        own, elector = ballot_in(original, ballot), ballot.elector
         if between := by_elector[elector].first_other(own, begin, end, known):
             return LetterOutcome.WAITS, Reason.CAME_BEFORE(
                 elector=elector, time=case.time, first=original.time, between=between.time

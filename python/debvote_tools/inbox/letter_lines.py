@@ -26,7 +26,7 @@ from debvote_tools.inbox.reasons import Reason
 from debvote_tools.inbox.signature import find_gpgv, verified
 from debvote_tools.inbox.vote import Vote
 from debvote_tools.poll.codes import has_code
-from debvote_tools.text.ballots import answers_in
+from debvote_tools.text.ballots import Ballot
 
 # debvote's answer to each line, as `bad rank count: ..`; None for a valid ballot
 Ask = Callable[[Sequence[bytes]], Mapping[bytes, str | None]]
@@ -34,22 +34,13 @@ Ask = Callable[[Sequence[bytes]], Mapping[bytes, str | None]]
 
 @dataclasses.dataclass(frozen=True)
 class BallotLine:
-    """A ballot: the number of its first line, from 1, or 0 if it was typed; the ballot as it would
-    be entered; and as it is written.
+    """A ballot in a letter: the number of its first line, from 1, or 0 if it was typed; the ballot
+    as it would be entered; and as it is written.
     """
 
     number: int
-    as_entered: str
+    ballot: Ballot
     written: str = ""
-
-    @property
-    def elector(self) -> str:
-        return self.as_entered.partition(" ")[0]
-
-    @property
-    def answers(self) -> set[tuple[str, str]]:
-        """The elector with the label of each answer."""
-        return answers_in(self.as_entered)
 
 
 @dataclasses.dataclass(frozen=True)

@@ -65,7 +65,7 @@ def going_in_words(letters: Sequence[LetterCase], vote: Vote) -> Iterator[str]:
         letters = [letter for letter in letters if not letter.read.link]
         if sealed:
             yield f"{count_of(len(sealed), 'sealed ballot')}: {', '.join(sorted({*sealed}))}"
-    are_many = vote.are_many(letter.sole_ballot.as_entered for letter in letters)
+    are_many = vote.are_many(letter.sole_line.ballot for letter in letters)
     between = "\n  " if vote.is_several else "; "
     for letter in letters:
         said = ballot_words(letter, vote, is_short=are_many)
@@ -75,11 +75,12 @@ def going_in_words(letters: Sequence[LetterCase], vote: Vote) -> Iterator[str]:
 
 
 def ballot_words(letter: LetterCase, vote: Vote, *, is_short: bool) -> str:
-    line = letter.sole_ballot
-    is_same = line.written == line.as_entered
+    line = letter.sole_line
+    ballot = line.ballot
+    is_same = line.written == ballot.line
     as_written = "" if is_same or hides() else f", written `{shown_line(line.written.encode())}`"
-    whose = f"{line.elector} ({name_of(letter)}{as_written})"
-    return vote.with_answers(whose, line.as_entered.partition(" ")[2], is_short=is_short)
+    whose = f"{ballot.elector} ({name_of(letter)}{as_written})"
+    return vote.with_answers(whose, ballot.answers, is_short=is_short)
 
 
 def more_words(letter: LetterCase) -> list[str]:
@@ -152,7 +153,7 @@ def why(letter: LetterCase, elector: str = "") -> str:
 def near_words(letter: LetterCase) -> Iterator[str]:
     """Where the text has ballots, or what may be meant as one."""
     for line in letter.proposals:
-        ballot = f"a ballot of {line.elector}" if hides() else line.as_entered
+        ballot = f"a ballot of {line.ballot.elector}" if hides() else line.ballot.line
         yield f"line {line.number}: {ballot}{quoted_words(letter, line)}"
     for near in letter.refused:
         yield f"line {near.number}, {private(f'ranks {shown_text(near.ranks)}: {near.answer}')}"
@@ -160,9 +161,9 @@ def near_words(letter: LetterCase) -> Iterator[str]:
         yield f"line {number} in a quotation or a signature looks like an answer"
 
 
-def quoted_words(letter: LetterCase, ballot: BallotLine) -> str:
+def quoted_words(letter: LetterCase, line: BallotLine) -> str:
     """What is said of a ballot that somebody else may have written."""
-    return "; a quotation may begin above it" if letter.may_be_quoted(ballot) else ""
+    return "; a quotation may begin above it" if letter.may_be_quoted(line) else ""
 
 
 def went_in_words(letters: Sequence[LetterCase], entered: int) -> str:

@@ -27,6 +27,7 @@ from debvote_tools.inbox.letter_text import MAX_BALLOTS, ReadLine
 from debvote_tools.inbox.reasons import Reason, ReasonWithValues
 from debvote_tools.poll.sealed import MARKS, marks_in
 from debvote_tools.text.addresses import address_key
+from debvote_tools.text.ballots import Ballot
 
 # how far the clock of a mail server may be ahead
 AHEAD = datetime.timedelta(minutes=10)
@@ -166,16 +167,16 @@ class LetterCase:
         self.proposals = self.valid_ballots()
         self.ballots = () if letter.text.is_proposed else self.proposals
         # the one that may go in
-        self.ballot = self.ballots[0] if len(self.ballots) == 1 else None
-        self.elector = "" if self.ballot is None else self.ballot.elector
+        self.line = self.ballots[0] if len(self.ballots) == 1 else None
+        self.elector = "" if self.line is None else self.line.ballot.elector
 
     def valid_ballots(self) -> tuple[BallotLine, ...]:
         """The valid ballots in it, of electors who are known, each once."""
-        ballots = dict[str, BallotLine]()
+        ballots = dict[Ballot, BallotLine]()
         for line in self.read.text.ballots:
             elector = self.elector_of(line)
             if elector and line.answer is None:
-                ballot = f"{elector} {line.ranks}"
+                ballot = Ballot(f"{elector} {line.ranks}")
                 ballots.setdefault(ballot, BallotLine(line.number, ballot, line.written))
         return tuple(ballots.values())
 
@@ -199,10 +200,10 @@ class LetterCase:
         )
 
     @property
-    def sole_ballot(self) -> BallotLine:
-        """`ballot`, of a letter that breaks no rule."""
-        assert self.ballot is not None
-        return self.ballot
+    def sole_line(self) -> BallotLine:
+        """`line`, of a letter that breaks no rule."""
+        assert self.line is not None
+        return self.line
 
     def elector_of(self, line: ReadLine) -> str | None:
         """Whose ballot a line is: if several have its name, the only one of them with the sender's
@@ -266,8 +267,8 @@ class LetterCase:
     @property
     def entered_answers(self) -> dict[tuple[str, str], EnteredBallot]:
         """The last ballot of it that was entered and is not struck, by elector and label."""
-        ballots = (ballot for ballot in self.entered if not ballot.is_struck)
-        return {answer: ballot for ballot in ballots for answer in ballot.answers}
+        entered = (one for one in self.entered if not one.is_struck)
+        return {part: one for one in entered for part in one.ballot.parts}
 
     @property
     def not_taken_back(self) -> list[EnteredBallot]:
@@ -300,7 +301,7 @@ class LetterCase:
         """Whether two electors have a ballot each, who have the sender's address, and one of whom
         sent it.
         """
-        names = {ballot.elector for ballot in self.proposals}
+        names = {line.ballot.elector for line in self.proposals}
         is_theirs = names.issubset(self.sharing) and any(map(self.is_tied, names))
         return is_theirs and len(names) == len(self.proposals) == 2
 
@@ -316,9 +317,9 @@ class LetterCase:
             return False
         return not self.may_be_quoted(self.to_enter[0])
 
-    def may_be_quoted(self, ballot: BallotLine) -> bool:
+    def may_be_quoted(self, line: BallotLine) -> bool:
         """Whether a quotation may begin above a ballot: somebody else may have written it."""
-        return any(map(may_begin_quotation, self.read.body.lines[: max(0, ballot.number - 1)]))
+        return any(map(may_begin_quotation, self.read.body.lines[: max(0, line.number - 1)]))
 
     @property
     def arrived_before_call(self) -> bool:
@@ -364,7 +365,7 @@ class LetterCase:
     @functools.cached_property
     def electors(self) -> tuple[str, ...]:
         """The electors on its ballots, or near to one; else the one who sent it."""
-        named = [line.elector for line in self.ballots]
+        named = [line.ballot.elector for line in self.ballots]
         named += [line.meant[0] for line in self.refused if len(line.meant) == 1]
         return tuple(dict.fromkeys(named or filter(None, [self.sending_elector])))
 
@@ -441,7 +442,7 @@ def why_not_from_its_elector(case: LetterCase) -> ReasonWithValues | None:
     elector = case.elector
     if not (read.sender or read.link):
         return Reason.NO_SENDER(sender=for_terminals(read.shown_sender))
-    if case.ballot is None:
+    if case.line is None:
         return None
     is_theirs = elector in case.sharing
     if is_theirs and read.is_fetched:
@@ -469,7 +470,7 @@ def why_not_signed_by_its_elector(case: LetterCase) -> ReasonWithValues | None:
     letter = case.read
     elector = case.elector
     circumstances = case.circumstances
-    if not circumstances.is_signed or case.ballot is None:
+    if not circumstances.is_signed or case.line is None:
         return None
     if (signature := letter.signature) is None:
         return letter.why_unsigned or Reason.NOT_SIGNED()
@@ -491,12 +492,12 @@ def why_not_alone(case: LetterCase) -> ReasonWithValues | None:
     text = case.read.text
     if crowd := text.crowd:
         return Reason.TOO_LONG(length=crowd, what="lines like ballots", limit=MAX_BALLOTS)
-    if case.ballot is None:
+    if case.line is None:
         return Reason.SEVERAL() if case.ballots else Reason.NO_BALLOT()
     if text.is_alone:
         return None
     is_below = text.has_more_answers and not text.words
-    return (Reason.ANSWER_BELOW if is_below else Reason.NOT_ALONE)(number=case.ballot.number)
+    return (Reason.ANSWER_BELOW if is_below else Reason.NOT_ALONE)(number=case.line.number)
 
 
 def why_not_of_this_vote(case: LetterCase) -> ReasonWithValues | None:

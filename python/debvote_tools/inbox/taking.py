@@ -24,6 +24,7 @@ from debvote_tools.inbox.box_records import Brought, asked_box, opened, unopened
 from debvote_tools.inbox.rules import LetterCase, LetterOutcome
 from debvote_tools.inbox.vote import Vote
 from debvote_tools.inbox.stopping import other_votes_words
+from debvote_tools.text.ballots import Ballot
 
 # how many letters with later ones are named
 MOST_NAMED = 20
@@ -121,16 +122,16 @@ class LetterEntry(Entry):
         is_secret = self.vote.questions.is_secret
         lines = list[str]()
         for number, reply, envelope in zip(numbers, replies, self.envelopes):
-            ballot = envelope.line.decode("ascii")
-            name, _, _ = ballot.partition(" ")
+            ballot = Ballot(envelope.line.decode("ascii"))
+            name = ballot.elector
             said = name if self.vote.is_several else self.vote.ballot_in_words(ballot)
             lines.append(f"{reply}  {name}" if is_secret else f"{number} {reply}  {said}")
         yield from sorted(lines) if is_secret else lines
         yield from filter(None, [self.end])
 
 
-def envelope_of(letter: LetterCase, ballot: str) -> NewEnvelope:
-    return NewEnvelope(ballot.encode(), "", letter.kept.source, letter.number, letter.time)
+def envelope_of(letter: LetterCase, ballot: Ballot) -> NewEnvelope:
+    return NewEnvelope(ballot.line.encode(), "", letter.kept.source, letter.number, letter.time)
 
 
 def with_outcome(cases: Iterable[LetterCase], outcome: LetterOutcome) -> list[LetterCase]:
@@ -196,7 +197,7 @@ def what_goes_in(
         vote=vote,
         # by their times, as they are judged: of an elector's ballots the one that is entered last
         # counts
-        envelopes=[envelope_of(letter, letter.sole_ballot.as_entered) for letter in new],
+        envelopes=[envelope_of(letter, letter.sole_line.ballot) for letter in new],
         # what is late breaks a rule, and does not go in
         is_late=False,
         end=letter_words.went_in_words(every, len(new)),

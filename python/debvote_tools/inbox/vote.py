@@ -28,7 +28,7 @@ from debvote_tools.files import BALLOTS_LIMIT, LINES_LIMIT
 from debvote_tools.grouping import grouped
 from debvote_tools.inbox.lines import RIGHT_ANSWERS, Line, Names, name_in, names_of, with_small_name
 from debvote_tools.poll.codes import has_code
-from debvote_tools.text.ballots import answers_of, ballot_file, line_of, part_of, ranks_by_label
+from debvote_tools.text.ballots import Ballot, ballot_file, ballot_of, part_of, ranks_by_label
 from debvote_tools.text.language import ENGLISH
 from debvote_tools.text.motions import ABSTAIN, words_in
 
@@ -101,13 +101,9 @@ class CheckedLine(NamedTuple):
         return None if self.finding is None else self.finding.answer
 
     @property
-    def voter(self) -> str:
-        return self.as_entered.partition(b" ")[0].decode("ascii")
-
-    @property
-    def answers(self) -> Mapping[str, str]:
-        """Of a ballot the ranks by question."""
-        return answers_of(self.as_entered.decode("ascii"))
+    def ballot(self) -> Ballot:
+        """What it is if debvote does not refuse it."""
+        return Ballot(self.as_entered.decode("ascii"))
 
 
 class Vote:
@@ -259,13 +255,12 @@ class Vote:
         """Of a line with several answers the valid ones, and those that are refused for one
         reason.
         """
-        name, _, answers = meant.decode("ascii").partition(" ")
+        whole = Ballot(meant.decode("ascii"))
         by_finding = grouped(
-            (findings.get(label), (label, ranks))
-            for label, ranks in ranks_by_label(answers).items()
+            (findings.get(label), (label, ranks)) for label, ranks in whole.ranks.items()
         )
         for finding in sorted(by_finding, key=lambda finding: finding is not None):
-            text = line_of(name, dict(by_finding[finding])).encode()
+            text = ballot_of(whole.elector, dict(by_finding[finding])).line.encode()
             yield CheckedLine(line, meant, text, finding, finding)
 
     def why_each_refused(self, lines: Sequence[bytes]) -> dict[bytes, str | None]:
@@ -384,7 +379,7 @@ class Vote:
         self, lines: Sequence[CheckedLine], numbers: Iterable[int], replies: Sequence[str]
     ) -> Iterator[str]:
         """Each line that went in, or would, by the number of its envelope and the reply to it."""
-        are_many = self.are_many(line.as_entered.decode() for line in lines if line.is_ballot)
+        are_many = self.are_many(line.ballot for line in lines if line.is_ballot)
         for number, reply, line in zip(numbers, replies, lines):
             yield from change_words(line)
             yield f"{number} {reply}  {self.in_words(line, reply, is_short=are_many)}"
@@ -404,7 +399,7 @@ class Vote:
         it.
         """
         if line.finding is None:
-            return self.ballot_in_words(line.as_entered.decode("ascii"), is_short=is_short)
+            return self.ballot_in_words(line.ballot, is_short=is_short)
         word = "" if line.finding.word == reply else f"{line.finding.word}: "
         # so that nobody takes one elector for another
         others = self.other_names(line.finding.near)
@@ -429,13 +424,12 @@ class Vote:
             f"{words}:\n{textwrap.indent(said, indent)}" if self.is_several else f"{words}: {said}"
         )
 
-    def ballot_in_words(self, ballot: str, *, is_short: bool = False) -> str:
-        voter, _, answers = ballot.partition(" ")
-        return self.with_answers(voter, answers, is_short=is_short)
+    def ballot_in_words(self, ballot: Ballot, *, is_short: bool = False) -> str:
+        return self.with_answers(ballot.elector, ballot.answers, is_short=is_short)
 
-    def are_many(self, ballots: Iterable[str]) -> bool:
+    def are_many(self, ballots: Iterable[Ballot]) -> bool:
         """Whether ballots of several questions have more lines in words than are read at once."""
-        return self.is_several and sum(map(len, map(answers_of, ballots))) > MOST_ANSWERS
+        return self.is_several and sum(len(ballot.ranks) for ballot in ballots) > MOST_ANSWERS
 
     @property
     def show_words(self) -> str:
@@ -501,9 +495,9 @@ def replies_to(
         if refused := LATE_REPLY if is_late else (why_refused or "").partition(":")[0]:
             yield refused
             continue
-        name, _, answers = line.decode("ascii").partition(" ")
-        before = answered.setdefault(name, set())
-        labels = [*ranks_by_label(answers)]
+        ballot = Ballot(line.decode("ascii"))
+        before = answered.setdefault(ballot.elector, set())
+        labels = [*ballot.ranks]
         replies = [REPLACED if label in before else COUNTED for label in labels]
         is_same = len({*replies}) == 1
         yield replies[0] if is_same else ", ".join(map(" ".join, zip(labels, replies)))

@@ -12,7 +12,7 @@ from debvote_tools.office.runs import Run, lines_of
 from debvote_tools.office.views import Values
 from debvote_tools.office.visit import Form, first
 from debvote_tools.poll.questions import Questions
-from debvote_tools.text.ballots import NUMBERS, UNRANKED, answers_text, ranks_by_label
+from debvote_tools.text.ballots import NUMBERS, UNRANKED, Ballot, ballot_of
 from debvote_tools.text.motions import RANKS
 
 DESKS = range(1, 9)
@@ -33,10 +33,10 @@ class Typed:
 
 
 def typed_of(questions: Questions, line: str) -> Typed:
-    name, _, answers = line.partition(" ")
-    ranks = {label: given for label, given in ranks_by_label(answers).items() if label in questions}
+    ballot = Ballot(line)
+    ranks = {label: given for label, given in ballot.ranks.items() if label in questions}
     return Typed(
-        name.rstrip(":"),
+        ballot.elector.rstrip(":"),
         {label: in_order(questions[label].names, given) for label, given in ranks.items()},
         {
             label: RANKS.index(given) if questions[label].motion and given in RANKS else -1
@@ -88,9 +88,9 @@ def drawn_in(vote: Vote, said: Sequence[str], line: str) -> tuple[Typed, Sequenc
     typed = typed_of(vote.questions, line)
     if not typed.answers or not all(typed.answers.values()):
         return None
-    answers = answers_text(ranks_by_label(line.partition(" ")[2]))
+    ranks = Ballot(line).ranks
     for name in dict.fromkeys(words.partition(":")[0] for words in said):
-        words = vote.ballot_in_words(f"{name} {answers}").split("\n")
+        words = vote.ballot_in_words(ballot_of(name, ranks)).split("\n")
         if set(words) <= set(said):
             return dataclasses.replace(typed, name=name), words
     return None

@@ -32,7 +32,7 @@ def in_list(vote: Vote, letter: LetterCase, language: Language) -> Values:
     return {
         **head_of(letter),
         "ballots": [] if is_secret else ballots_of(vote, letter, language),
-        "electors": [line.elector for line in letter.ballots] if is_secret else [],
+        "electors": [line.ballot.elector for line in letter.ballots] if is_secret else [],
     }
 
 
@@ -52,8 +52,8 @@ def ballots_of(vote: Vote, letter: LetterCase, language: Language) -> list[Value
     in_words = vote.questions.in_words(language)
     return [
         {
-            "elector": line.elector,
-            "words": in_words(line.as_entered.partition(" ")[2]),
+            "elector": line.ballot.elector,
+            "words": in_words(line.ballot.answers),
             "line": line.number,
             "quoted": letter.may_be_quoted(line),
         }
@@ -84,7 +84,7 @@ def reasons_to_ask(letter: LetterCase) -> list[str]:
     """For what `--force` may be needed. The command alone decides: it stops at what is not named,
     and nothing is named that is not there when its page is drawn.
     """
-    names = {line.elector for line in letter.proposals}
+    names = {line.ballot.elector for line in letter.proposals}
     is_tied = letter.is_of_couple or all(map(letter.is_tied, names))
     return [
         *([] if is_tied and names else [held.NOT_TIED]),

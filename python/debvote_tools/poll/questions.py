@@ -9,7 +9,7 @@ from collections.abc import Callable, Collection, Mapping
 from debvote_tools.files import sha256_of
 from debvote_tools.poll.sealed import SealedPoll, read_plain
 from debvote_tools.text.answers import answer_pattern
-from debvote_tools.text.ballots import ballots_in_words, line_of, ranks_by_label
+from debvote_tools.text.ballots import ballot_of, ballots_in_words, ranks_by_label
 from debvote_tools.text.language import ENGLISH, Language
 from debvote_tools.text.motions import Words, words_of
 
@@ -77,7 +77,7 @@ class Questions(dict[str, SealedPoll]):
         for label, poll in self.items():
             count = len(poll.names)
             answers[label] = ",".join(rank(number, count) for number in range(1, count + 1))
-        return line_of(name, answers)
+        return ballot_of(name, answers).line
 
     def words(self, language: Language) -> Words:
         """The words by which motions may be answered; none if no question is one."""

@@ -3,6 +3,7 @@
 Ranks are spelled as `standing` and the ballot file spell them, such as `1,2,-,3`.
 """
 
+import dataclasses
 import functools
 import itertools
 import re
@@ -57,33 +58,46 @@ def answers_text(answers: Mapping[str, str]) -> str:
     return " ".join(filter(None, itertools.chain(*answers.items())))
 
 
-def line_of(name: str, answers: Mapping[str, str]) -> str:
+@dataclasses.dataclass(frozen=True)
+class Ballot:
+    """A ballot by its line, as it is entered: the name of its elector and answers. An empty line is
+    that of a ballot without both.
+    """
+
+    line: str
+
+    @property
+    def elector(self) -> str:
+        return self.line.partition(" ")[0]
+
+    @property
+    def answers(self) -> str:
+        """What stands behind the name."""
+        return self.line.partition(" ")[2]
+
+    @functools.cached_property
+    def ranks(self) -> Mapping[str, str]:
+        """By the labels of the questions that it answers."""
+        return ranks_by_label(self.answers)
+
+    @property
+    def parts(self) -> set[tuple[str, str]]:
+        """The elector with the label of each answer."""
+        return {(self.elector, label) for label in self.ranks}
+
+    def differs(self, other: "Ballot") -> bool:
+        """Whether both answer a question, in different ways."""
+        return any(other.ranks.get(label, ranks) != ranks for label, ranks in self.ranks.items())
+
+    def without(self, labels: Collection[str]) -> "Ballot":
+        """Without the answers to some questions."""
+        left = {label: ranks for label, ranks in self.ranks.items() if label not in labels}
+        return ballot_of(self.elector, left)
+
+
+def ballot_of(elector: str, ranks: Mapping[str, str]) -> Ballot:
     """A ballot from the ranks by question."""
-    return f"{name} {answers_text(answers)}"
-
-
-@functools.lru_cache(maxsize=10_000)
-def answers_of(ballot: str) -> Mapping[str, str]:
-    """The ranks by question, of a ballot with its name. Each is compared with many others."""
-    return ranks_by_label(ballot.partition(" ")[2])
-
-
-def answers_in(ballot: str) -> set[tuple[str, str]]:
-    """The name on a ballot with the label of each of its answers."""
-    name, _, _ = ballot.partition(" ")
-    return {(name, label) for label in answers_of(ballot)}
-
-
-def differ(ballot: str, other: str) -> bool:
-    """Whether two ballots answer a question in different ways."""
-    others = answers_of(other)
-    return any(others.get(label, ranks) != ranks for label, ranks in answers_of(ballot).items())
-
-
-def without(ballot: str, labels: Collection[str]) -> str:
-    """A ballot without the answers to some questions; empty if none is left."""
-    left = {label: one for label, one in answers_of(ballot).items() if label not in labels}
-    return line_of(ballot.partition(" ")[0], left) if left else ""
+    return Ballot(f"{elector} {answers_text(ranks)}")
 
 
 def part_of(line: bytes, label: str) -> bytes | None:

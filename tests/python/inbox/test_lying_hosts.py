@@ -8,13 +8,12 @@ import zoneinfo
 
 from debvote_tools.call.box import proof_digest, third_part
 from debvote_tools.inbox.box_records import MOST
-from debvote_tools.inbox.judging import Ballot
 from debvote_tools.inbox.letter import ParsedLetter
 
 from tests.support import boxes, sealing
 from tests.support.boxes import OTHER, RANKS, now
 from tests.support.elections import NAMES
-from tests.support.letters import OWN, at, judged, letter, outcome, outcomes, parsed
+from tests.support.letters import OWN, at, at_time, judged, letter, outcome, outcomes, parsed
 from tests.support.web_host import NEEDS_PHP, record
 
 BERLIN = zoneinfo.ZoneInfo("Europe/Berlin")
@@ -367,7 +366,7 @@ class Clocks(unittest.TestCase):
             self.assertEqual(self.becomes(first, later), [IN, wanted])
         # one that was entered before
         for behind, wanted in ((180, "waits: clocks"), (0, "older: later ballot")):
-            entered = {"ada": [Ballot(at(10, 2), f"ada {RANKS}", True, -behind)]}
+            entered = {"ada": [at_time(at(10, 2), f"ada {RANKS}", True, -behind)]}
             self.assertEqual(self.becomes(letter("ada", f"ada {OTHER}"), ballots=entered), [wanted])
 
     def test_which_ballots_are_surely_later(self):
@@ -375,8 +374,8 @@ class Clocks(unittest.TestCase):
         the last alone.
         """
         line = f"ada {RANKS}"
-        sure, ahead = Ballot(at(12), line), Ballot(at(13), line, True, -14_400)
-        near = [Ballot(at(9, 58), line, True, 300), Ballot(at(9, 59), line)]
+        sure, ahead = at_time(at(12), line), at_time(at(13), line, True, -14_400)
+        near = [at_time(at(9, 58), line, True, 300), at_time(at(9, 59), line)]
         # it waits, since another address sent it
         given = letter("ada", f"ada {OTHER}", sender="x@y.example")
         for there, is_sure in (

@@ -102,7 +102,7 @@ class People(unittest.TestCase):
         for kind, head, text in records():
             case = case_of(head, text)
             meant = [] if head["means"] == "none" else head["means"].split("; ")
-            is_right = sorted(dense(one.as_entered) for one in case.to_enter) == sorted(
+            is_right = sorted(dense(one.ballot.line) for one in case.to_enter) == sorted(
                 map(dense, meant)
             )
             if case.outcome is LetterOutcome.GOES_IN:

@@ -27,7 +27,7 @@ CARD = "--b\nContent-Type: text/plain\n\n{}\n--b\nContent-Type: text/vcard; name
 
 def proposed(data: bytes, **other: object) -> list[str]:
     [case] = judged(data, **other)
-    return [ballot.as_entered for ballot in case.proposals]
+    return [ballot.ballot.line for ballot in case.proposals]
 
 
 class Loose(unittest.TestCase):
@@ -49,7 +49,7 @@ class Loose(unittest.TestCase):
             kind = {"kind": HTML} if text.startswith("<") else {}
             with self.subTest(text):
                 [case] = judged(letter("ada", text, **kind))
-                self.assertEqual([one.as_entered for one in case.to_enter], [BALLOT])
+                self.assertEqual([one.ballot.line for one in case.to_enter], [BALLOT])
                 self.assertEqual((case.outcome.value, case.is_nothing_else), ("waits", False))
 
     def test_what_is_none(self):
@@ -63,7 +63,7 @@ class Loose(unittest.TestCase):
         ):
             with self.subTest(text):
                 [case] = judged(letter("ada", text))
-                self.assertEqual([one.as_entered for one in case.proposals], found)
+                self.assertEqual([one.ballot.line for one in case.proposals], found)
                 self.assertEqual(case.to_enter, ())
 
     def test_without_a_name_it_is_of_who_sent_it(self):
@@ -142,7 +142,7 @@ class GoesIn(unittest.TestCase):
         data = letter("ada", CARD.format(BALLOT), kind="multipart/mixed; boundary=b")
         [case] = judged(data)
         self.assertEqual(
-            ([one.as_entered for one in case.to_enter], case.read.attachments),
+            ([one.ballot.line for one in case.to_enter], case.read.attachments),
             ([BALLOT], ("ada.vcf",)),
         )
         self.assertEqual(outcomes(data), ["waits: card"])

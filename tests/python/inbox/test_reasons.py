@@ -7,14 +7,24 @@ import dataclasses
 import re
 import unittest
 
-from debvote_tools.inbox.judging import Ballot
 from debvote_tools.inbox.letter import Signature
 from debvote_tools.inbox.reasons import Reason, ReasonWithValues, for_elector, for_secretary
 from debvote_tools.text.answers import answer_pattern
 
 from tests.python.inbox import test_signatures
 from tests.python.inbox.test_table_of_letters import OTHERS, TABLE
-from tests.support.letters import BALLOT, MARK, OTHER, at, case, judged, label, letter, parsed
+from tests.support.letters import (
+    BALLOT,
+    MARK,
+    OTHER,
+    at,
+    at_time,
+    case,
+    judged,
+    label,
+    letter,
+    parsed,
+)
 
 # values of each name that a reason may have
 NUMBERS = {"length": 7, "limit": 8, "number": 3, "digest": 2, "seconds": 180}
@@ -64,7 +74,7 @@ class Sentences(unittest.TestCase):
 
     def test_which_times_are_told(self):
         """Of each reason that has one."""
-        desk, late = {"ada": [Ballot(at(11), OTHER)]}, "Mon, 23 Nov 2026 11:00:00 +0000"
+        desk, late = {"ada": [at_time(at(11), OTHER)]}, "Mon, 23 Nov 2026 11:00:00 +0000"
         closed = {"first_close": at(7)}
         for said, how in (
             (

@@ -8,7 +8,8 @@ from collections.abc import Sequence
 from typing import NamedTuple
 
 from debvote_tools.book import queries
-from debvote_tools.inbox.judging import Ballot, judge_all
+from debvote_tools.book.queries import TimedBallot
+from debvote_tools.inbox.judging import judge_all
 from debvote_tools.inbox.letter import ParsedLetter
 from debvote_tools.inbox.letter_lines import ReadLetter
 from debvote_tools.inbox.reasons import for_secretary
@@ -21,6 +22,7 @@ from tests.support.letters import (
     RANKS,
     alternatives,
     at,
+    at_time,
     case_of,
     circumstances,
     in_order,
@@ -63,10 +65,10 @@ def above(data: bytes, line: bytes) -> bytes:
 def entered(*letters: LetterCase) -> dict[str, object]:
     """The circumstances when what goes in of these has gone in."""
     going = [one for one in letters if one.outcome is LetterOutcome.GOES_IN]
-    ballots = collections.defaultdict[str, list[Ballot]](list)
+    ballots = collections.defaultdict[str, list[TimedBallot]](list)
     for one in going:
         assert one.time is not None
-        ballot = Ballot(one.time, one.ballots[0].as_entered, True)
+        ballot = at_time(one.time, one.ballots[0].ballot.line, True)
         ballots[one.electors[0]].append(ballot)
     return {"ballots": ballots, "decisions": {one.read.digest: queries.ENTERED for one in going}}
 
@@ -140,7 +142,7 @@ class BesideEachOther(unittest.TestCase):
             # while it waits it hides none that breaks a rule
             (above(first(), AUTOMATIC), "waits: automatic"),
         ):
-            later = {"ada": [Ballot(at(11), OTHER)]}
+            later = {"ada": [at_time(at(11), OTHER)]}
             self.become([first(), copy], "waits: later ballot", becomes, ballots=later)
         both = ["waits: same time"] * 2
         self.assertEqual(sorted(outcomes(first(), other(10), again)), ["copy", *both])
@@ -160,7 +162,7 @@ class BesideEachOther(unittest.TestCase):
         self.become([first(), kept], "copy", "entered", **since)
         becomes = ("waits: came before", "older: later ballot", "entered")
         self.become([first(), other(11), kept], *becomes, **since)
-        desk = {"ballots": {"ada": [Ballot(at(11), OTHER), Ballot(at(12), BALLOT, True)]}}
+        desk = {"ballots": {"ada": [at_time(at(11), OTHER), at_time(at(12), BALLOT, True)]}}
         [copy, _] = judged(first(), kept, **since | desk)
         said = "it is a copy, of 2026-11-23 10:00:00 UTC, of a letter of 2026-11-23 12:00:00 UTC that was read before, and ada has a ballot of 2026-11-23 11:00:00 UTC, between the two"
         self.assertEqual(copy.reason and for_secretary(copy.reason), said)
@@ -171,14 +173,14 @@ class BesideEachOther(unittest.TestCase):
         """
         later = judged(other(12))
         self.become([later[0].read, first()], "older: later ballot", "entered", **entered(*later))
-        by_letter = Ballot(at(12), OTHER, True)
+        by_letter = at_time(at(12), OTHER, True)
         for ballots, becomes in (
             ([by_letter], "older: later ballot"),
-            ([by_letter, Ballot(at(13), OTHER)], "older: later ballot"),
-            ([Ballot(at(12), OTHER)], "waits: later ballot"),
-            ([Ballot(at(9), OTHER, True), Ballot(at(12), OTHER)], "waits: later ballot"),
-            ([Ballot(at(10), OTHER, True), Ballot(at(12), BALLOT)], "waits: later ballot"),
-            ([Ballot(at(9), OTHER, True)], IN),
+            ([by_letter, at_time(at(13), OTHER)], "older: later ballot"),
+            ([at_time(at(12), OTHER)], "waits: later ballot"),
+            ([at_time(at(9), OTHER, True), at_time(at(12), OTHER)], "waits: later ballot"),
+            ([at_time(at(10), OTHER, True), at_time(at(12), BALLOT)], "waits: later ballot"),
+            ([at_time(at(9), OTHER, True)], IN),
         ):
             self.become([first()], becomes, ballots={"ada": ballots})
         # whether the vote is closed or not, and beside its copies
@@ -200,7 +202,7 @@ class BesideEachOther(unittest.TestCase):
         ):
             kept, again = parsed(first(text=text)), first(12, text)
             for ballots, becomes in (
-                ({"ada": [Ballot(at(11), OTHER)]}, "waits: came before"),
+                ({"ada": [at_time(at(11), OTHER)]}, "waits: came before"),
                 ({}, "copy"),
             ):
                 how = {"decisions": {kept.digest: decision}, "ballots": ballots}
@@ -360,7 +362,7 @@ class World:
         reads += [(MINUTES, box) for box in chance.sample(range(BOXES), BOXES)]
         known = dict(zip(self.deliveries, read(*map(self.bytes_of, self.deliveries))))
         there, now = list[ReadLetter](), circumstances()
-        decisions, box = dict[str, str](), list[Ballot]()
+        decisions, box = dict[str, str](), list[TimedBallot]()
         last = ""
 
         def found() -> list[LetterCase]:
@@ -369,7 +371,7 @@ class World:
 
         for minute in range(MINUTES + 1):
             if minute in self.desk:
-                box.append(Ballot(at(10, minute), self.desk[minute]))
+                box.append(at_time(at(10, minute), self.desk[minute]))
                 last = box[-1].line
             for _, number in [one for one in reads if one[0] == minute]:
                 arrived = [one for one in known if one.box == number and one.minute <= minute]
@@ -378,7 +380,7 @@ class World:
                 for one in found() if minute == MINUTES or chance.random() < 0.8 else ():
                     if one.outcome is LetterOutcome.GOES_IN and one.time is not None:
                         decisions[one.read.digest] = queries.ENTERED
-                        box.append(Ballot(one.time, one.ballots[0].as_entered, True))
+                        box.append(at_time(one.time, one.ballots[0].ballot.line, True))
                         last = box[-1].line
         becomes = [one.outcome for one in found()]
         assert LetterOutcome.GOES_IN not in becomes

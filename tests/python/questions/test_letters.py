@@ -12,7 +12,8 @@ from collections.abc import Iterable, Mapping, Sequence
 from typing import NamedTuple
 
 from debvote_tools.inbox.letter import ParsedLetter
-from debvote_tools.inbox.judging import Ballot, judge_all
+from debvote_tools.book.queries import TimedBallot
+from debvote_tools.inbox.judging import judge_all
 from debvote_tools.inbox.letter_lines import ReadLetter, from_json, to_json, with_texts
 from debvote_tools.inbox.rules import LetterCase, LetterOutcome
 from debvote_tools.inbox.signature import Signature
@@ -26,6 +27,7 @@ from tests.support.letters import (
     OTHER,
     answer,
     at,
+    at_time,
     circumstances,
     in_order,
     judged_alone,
@@ -87,7 +89,7 @@ def read(*given: bytes | ParsedLetter, words: Words = {}) -> list[ReadLetter]:
 
 def judged(
     *given: bytes | ParsedLetter,
-    ballots: Mapping[str, Sequence[Ballot]] | None = None,
+    ballots: Mapping[str, Sequence[TimedBallot]] | None = None,
     words: Words = {},
     **other: object,
 ) -> list[LetterCase]:
@@ -100,10 +102,8 @@ def judged(
 def becomes(text: str, how: object = letter, words: Words = {}, name: str = "ada") -> str:
     """What becomes of a letter, and the ballot that `held --enter` takes of one that waits."""
     [case] = judged(how(name, text), words=words)  # type: ignore[operator]
-    is_taken = case.outcome is LetterOutcome.WAITS and case.to_enter and case.ballot
-    return (
-        f"{outcome(case)} ({case.ballot.as_entered})" if is_taken and case.ballot else outcome(case)
-    )
+    is_taken = case.outcome is LetterOutcome.WAITS and case.to_enter and case.line
+    return f"{outcome(case)} ({case.line.ballot.line})" if is_taken and case.line else outcome(case)
 
 
 ALL = "in: ada A 1,2 B 2,1,3,-"
@@ -290,7 +290,7 @@ class Written(unittest.TestCase):
         ):
             how = {"sender": "us@club.example", "subject": subject}
             [case] = judged(letter("ada", text, **how), **couple)
-            shown = {line.number: line.as_entered for line in case.ballots}
+            shown = {line.number: line.ballot.line for line in case.ballots}
             with self.subTest(text):
                 self.assertEqual(
                     (outcome(case), shown, case.shared_with), (wanted, ballots, shared)
@@ -415,7 +415,7 @@ class Later(unittest.TestCase):
             ("when?", [(12, "ada B 1,2,3,4", True)], ("waits: no ballot", True)),
         ):
             with self.subTest(text, there=there):
-                ballots = [Ballot(at(hour), line, by_letter) for hour, line, by_letter in there]
+                ballots = [at_time(at(hour), line, by_letter) for hour, line, by_letter in there]
                 [case] = judged(letter("ada", text), ballots={"ada": ballots})
                 self.assertEqual((outcome(case), bool(case.voted_since)), wanted)
 
@@ -630,7 +630,7 @@ class Random(unittest.TestCase):
         ):
             case = judged_alone(one, known)
             name, *parts = (
-                case.ballots[0].as_entered.split(" ")
+                case.ballots[0].ballot.line.split(" ")
                 if case.outcome is LetterOutcome.GOES_IN
                 else [""]
             )
