@@ -2,7 +2,7 @@
 //!
 //! Also writers that fail, gates that stop a desk, and memory and threads that may be refused.
 //!
-//! Each test `memory_of_perform_on_..` and `threads_of_perform_on_..` has `perform_on` do one request, on a writer with room. The
+//! Each test `memory_of_perform_..` and `threads_of_perform_..` has `perform` do one request, on a writer with room. The
 //! test passes if the call gave its whole right answer. If the call reported that memory or a thread was refused, and nothing was
 //! written, the test fails with `refused` or `refused a thread`. So whoever runs it with one growth or one start after another
 //! refused sees whether there is any other answer.
@@ -19,7 +19,7 @@ use std::sync::Wait;
 use std::test::Fail;
 use std::thread::Threads;
 use vote_commands::{
-    Ended, FinishedRun, LoadedRequest, RunFault, perform_on, print_steps, run, sheet, split_joined,
+    Ended, FinishedRun, LoadedRequest, RunFault, perform, print_steps, run, sheet, split_joined,
     status, steps_joined,
 };
 use vote_desks::{Audited, Gate, NoGate, Slip, VoteFault, take_votes};
@@ -87,7 +87,9 @@ fn performed_on<G: Gate + Sync, R: Threads + Wait + Sync>(
         requires { AreDesks desks }
         ensures { AreVotesTaken poll.now lines.now desks result }
     { take_votes(rt, alloc, poll, lines, desks, gate) };
-    perform_on::<_, Paper>(alloc, request, take, paper)
+    let mut sink = WriterSink::new(paper);
+    let finished = perform::<_, WriterSink<Paper>>(alloc, request, take, &mut sink);
+    (sink.into_writer(), finished)
 }
 
 /// Counts the cycle at one desk on such a paper. Returns whether a prefix of the sheet is written, how long it is, how often the
@@ -315,17 +317,17 @@ fn walk_count<R: Threads + Wait + Sync>(rt: &R, alloc: Global) -> Result<(), Fai
 }
 
 #[test]
-fn memory_of_perform_on_count(rt: HostRuntime) -> Result<(), Fail> {
+fn memory_of_perform_count(rt: HostRuntime) -> Result<(), Fail> {
     walk_count(&rt, rt.alloc())
 }
 
 #[test]
-fn threads_of_perform_on_count(rt: HostRuntime) -> Result<(), Fail> {
+fn threads_of_perform_count(rt: HostRuntime) -> Result<(), Fail> {
     walk_count(&rt, rt.alloc())
 }
 
 #[test]
-fn memory_of_perform_on_steps(rt: HostRuntime) -> Result<(), Fail> {
+fn memory_of_perform_steps(rt: HostRuntime) -> Result<(), Fail> {
     let request = Request::List {
         poll: CYCLE.as_bytes(),
         ballots: b"v0 1,2\nv1 1,2,3,4\nv1 4,3,2,1",
@@ -336,7 +338,7 @@ fn memory_of_perform_on_steps(rt: HostRuntime) -> Result<(), Fail> {
 }
 
 #[test]
-fn memory_of_perform_on_standing(rt: HostRuntime) -> Result<(), Fail> {
+fn memory_of_perform_standing(rt: HostRuntime) -> Result<(), Fail> {
     let request = Request::List {
         poll: CYCLE.as_bytes(),
         ballots: b"v1 1,2,3,4\nv0 -,2,99,1\nv1 4,3,2,1",
@@ -360,13 +362,13 @@ fn verify(sheet: &'static [u8]) -> LoadedRequest<'static>
 }
 
 #[test]
-fn memory_of_perform_on_verify(rt: HostRuntime) -> Result<(), Fail> {
+fn memory_of_perform_verify(rt: HostRuntime) -> Result<(), Fail> {
     let words = "differs at line 1\nsheet: A sheet\ncount: Poll: A cycle\n";
     walk(&rt, rt.alloc(), &verify(b"A sheet"), words, Ended::Differs)
 }
 
 #[test]
-fn memory_of_perform_on_explain(rt: HostRuntime) -> Result<(), Fail> {
+fn memory_of_perform_explain(rt: HostRuntime) -> Result<(), Fail> {
     let request = Request::Explain {
         poll: CYCLE.as_bytes(),
         ballots: Some(b"v0 1,2\nv1 1,2,3,4\r\n"),
@@ -379,7 +381,7 @@ fn memory_of_perform_on_explain(rt: HostRuntime) -> Result<(), Fail> {
 }
 
 #[test]
-fn memory_of_perform_on_check(rt: HostRuntime) -> Result<(), Fail> {
+fn memory_of_perform_check(rt: HostRuntime) -> Result<(), Fail> {
     let request = Request::Check {
         poll: CYCLE.as_bytes(),
     };
@@ -392,7 +394,7 @@ const JOINED: &[u8] =
     b"title = \"Two electors\"\noptions = [\"A\", \"B\"]\nratios = [1, 1]\ndefault = \"None\"\nquorum = 0\nroll = [\"ann\", \"bob\"]\n%%\nann 1,2,3\nbob 2,1,3\nann 3,2,1\n";
 
 #[test]
-fn memory_of_perform_on_joined(rt: HostRuntime) -> Result<(), Fail> {
+fn memory_of_perform_joined(rt: HostRuntime) -> Result<(), Fail> {
     let (poll, ballots) = split_joined(JOINED);
     let request = Request::List {
         poll,

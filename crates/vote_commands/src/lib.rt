@@ -9,8 +9,8 @@
 //!   input.
 //! - [`check_poll`] reads a poll file and writes how many options and electors it has, and [`explain`] writes all that is wrong
 //!   with it and with its ballots.
-//! - [`perform`] does the run that a [`LoadedRequest`] asks for, and [`perform_on`] does it on a writer of std. Both return how the
-//!   run ended ([`FinishedRun`]). [`perform_listing`] does the run of a listing.
+//! - [`perform`] does the run that a [`LoadedRequest`] asks for, and returns how the run ended
+//!   ([`FinishedRun`]). [`perform_listing`] does the run of a listing.
 //! - No run here may wait. One that counts takes its votes by a call that it is given, at most once, and it returns if that call does.
 //!   The call promises that a box which it returns is audited, as `take_votes` of `vote_desks` does. Votes stop a run only by
 //!   a fault that this call may return.
@@ -52,5 +52,5 @@ pub use fault::{Ended, InputFault, InputFile, RunFault, fault_status, status, un
 pub use finished_run::FinishedRun;
 pub use joined::split_joined;
 pub use listing::{print_listing, print_steps, steps_joined};
-pub use requests::{LoadedRequest, perform, perform_listing, perform_on};
+pub use requests::{LoadedRequest, perform, perform_listing};
 pub use votes::CountInputs;

@@ -14,9 +14,8 @@ use crate::finished_run::{FinishedRun, unaudited};
 use crate::listing::print_listing;
 use crate::votes::CountInputs;
 use std::alloc::Global;
-use std::io::Write;
 use vote_audit::{Audited, VoteFault};
-use vote_files::{Sink, WriterSink};
+use vote_files::Sink;
 use vote_poll::{Lines, Poll};
 use vote_request::{Listing, Request};
 
@@ -97,21 +96,4 @@ pub fn perform<V: FnOnce(&Poll, &Lines<'_>, u8) -> Result<Audited, VoteFault> + 
             poll_name,
         } => unaudited(explain(alloc, poll, *ballots, *file, *poll_name, sink)),
     }
-}
-
-/// [`perform`] on a writer of std. Returns the writer.
-pub fn perform_on<V: FnOnce(&Poll, &Lines<'_>, u8) -> Result<Audited, VoteFault> + Drop, W: Write>(
-    alloc: Global,
-    request: &LoadedRequest<'_>,
-    take: V,
-    writer: W,
-) -> (W, FinishedRun)
-    requires desks { DesksFit request.now }
-    requires take { TakesVotes (V.pre take) (V.post take) }
-    ensures { Performs (V.post take) request.now (W.contents writer) (W.contents result.0)
-        result.1 }
-{
-    let mut sink = WriterSink::new(writer);
-    let finished = perform(alloc, request, take, &mut sink);
-    (sink.into_writer(), finished)
 }

@@ -9,7 +9,7 @@ use Rattle.vote_program.specs.Outputs.{Written}
 use Rattle.vote_program.specs.RequestEnds.{EndsRequest, IsDone, IsRequestDone}
 use Rattle.vote_program.specs.LoadedRequests.{AreReadOf, IsReadWithin}
 use Rattle.vote_program.specs.FileReadings.{all_read, limit_of, named_files}
-use Rattle.vote_program.specs.declared.inputs.Inputs.{Inputs}
+use Rattle.vote_program.specs.declared.inputs.FileBytes.{FileBytes}
 use Rattle.vote_request.specs.Requests.{DesksFit, ballot_file, poll_file, request_on, sheet_file}
 use Rattle.vote_request.specs.declared.Request.TheVariants as request
 
@@ -21,7 +21,7 @@ desks_stay (request.Check old_poll) poll ballots sheet fit = tt
 desks_stay (request.Explain old_poll given file poll_name) poll ballots sheet fit = tt
 
 -- the files that were read are those of the request, so it ends as it does on their bytes
-pub done_on_its_files : (file_bytes : List ℕ → Option (List ℕ)) (Reads : List FileReading → Type 0) (Takes : Taking) (request : NamedRequest) (inputs : Inputs) (written : Written) (finished : FinishedRun)
+pub done_on_its_files : (file_bytes : List ℕ → Option (List ℕ)) (Reads : List FileReading → Type 0) (Takes : Taking) (request : NamedRequest) (inputs : FileBytes) (written : Written) (finished : FinishedRun)
     → Reads (all_read (named_files request)) → AreReadOf file_bytes request inputs → IsRequestDone Takes request inputs written finished
     → EndsRequest file_bytes Reads Takes request written finished
 done_on_its_files file_bytes Reads Takes request inputs written finished read files done =

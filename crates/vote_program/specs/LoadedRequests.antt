@@ -7,7 +7,7 @@ use Rattle.vote_command_line.specs.ParsedArgs.{NamedRequest}
 use Rattle.vote_commands.specs.Performing.{LoadedRequest}
 use Rattle.vote_commands.specs.declared.InputFile.TheVariants as file
 use Rattle.vote_program.specs.FileReadings.{limit_of}
-use Rattle.vote_program.specs.declared.inputs.Inputs.{Inputs}
+use Rattle.vote_program.specs.declared.inputs.FileBytes.{FileBytes}
 
 -- these bytes are the whole input, if that is known, and at most as many as the limit
 abbrev pub IsReadWithin : ℕ → Option (List ℕ) → List ℕ → Type 0
@@ -20,11 +20,11 @@ pub record AreFilesOf (file_bytes : List ℕ → Option (List ℕ)) (request : N
   pub sheet_is : IfSome (sheet_file request) (λ name. IsReadWithin (limit_of file.Sheet) (file_bytes name.now) sheet)
 
 -- those that were read
-abbrev pub AreReadOf : (List ℕ → Option (List ℕ)) → NamedRequest → Inputs → Type 0
+abbrev pub AreReadOf : (List ℕ → Option (List ℕ)) → NamedRequest → FileBytes → Type 0
 AreReadOf file_bytes request inputs = AreFilesOf file_bytes request inputs.poll.items inputs.ballots.items inputs.sheet.items
 
 -- what the named request asks for, with the bytes of the files that were read
-abbrev pub IsLoadedWith : NamedRequest → Inputs → LoadedRequest → Type 0
+abbrev pub IsLoadedWith : NamedRequest → FileBytes → LoadedRequest → Type 0
 IsLoadedWith request inputs loaded =
     (poll ballots sheet : Bor (List ℕ)) × (poll.now ≡ inputs.poll.items) × (ballots.now ≡ inputs.ballots.items) × (sheet.now ≡ inputs.sheet.items)
     × (loaded ≡ request_on request poll ballots sheet)

@@ -16,7 +16,7 @@ use Rattle.vote_commands.specs.declared.RunFault.{RunFault}
 use Rattle.vote_program.specs.LoadedRequests.{AreFilesOf, IsLoadedWith, IsReadWithin}
 use Rattle.vote_program.specs.Outputs.{WritesNothing, Written}
 use Rattle.vote_program.specs.FileReadings.{IsOneUnread, IsUnread, all_read, named_files}
-use Rattle.vote_program.specs.declared.inputs.Inputs.{Inputs}
+use Rattle.vote_program.specs.declared.inputs.FileBytes.{FileBytes}
 use Rattle.vote_program.specs.declared.inputs.TheConstants.{JOINED_LIMIT}
 
 -- a file was not read, for this fault; nothing is written, and no box is returned
@@ -29,7 +29,7 @@ abbrev pub IsDone : Taking → LoadedRequest → Written → FinishedRun → Typ
 IsDone Takes loaded written finished = Performs Takes loaded written.old.bytes written.new.bytes finished × OnOk finished.end (written.new.flushed ≡ true)
 
 -- so is a named request, with the bytes of the files that were read
-abbrev pub IsRequestDone : Taking → NamedRequest → Inputs → Written → FinishedRun → Type 0
+abbrev pub IsRequestDone : Taking → NamedRequest → FileBytes → Written → FinishedRun → Type 0
 IsRequestDone Takes request inputs written finished = (loaded : LoadedRequest) × IsLoadedWith request inputs loaded × IsDone Takes loaded written finished
 
 -- a file that the request names was not read; or all are read, each once, in their order, and the request is performed on the bytes known of the names

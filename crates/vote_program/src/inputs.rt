@@ -83,7 +83,7 @@ fn read_if_named<S: Sources>(
 
 /// The files of a request. One that it does not name has no bytes.
 #[derive(Drop)]
-pub struct Inputs {
+pub struct FileBytes {
     pub poll: Vec<u8>,
     pub ballots: Vec<u8>,
     pub sheet: Vec<u8>,
@@ -94,7 +94,7 @@ pub fn read_inputs<S: Sources>(
     files: &mut S,
     alloc: Global,
     request: &NamedRequest<'_>,
-) -> Result<Inputs, RunFault>
+) -> Result<FileBytes, RunFault>
     ensures files { IfOk result (λ inputs. AreReadOf (S.file_bytes files.old) request.now inputs) }
     ensures poll { IfOk result (λ inputs. vec_len inputs.poll ≤ POLL_LIMIT) }
     ensures ballots { IfOk result (λ inputs. vec_len inputs.ballots ≤ BALLOTS_LIMIT) }
@@ -120,7 +120,7 @@ pub fn read_inputs<S: Sources>(
         Ok(sheet) => sheet,
         Err(fault) => return Err(fault),
     };
-    Ok(Inputs {
+    Ok(FileBytes {
         poll,
         ballots,
         sheet,

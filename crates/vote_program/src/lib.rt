@@ -28,6 +28,6 @@ mod request_run;
 
 pub use answers::{answer, refuse};
 pub use exit_status::{args_status, report};
-pub use inputs::{Inputs, read_inputs, read_joined};
+pub use inputs::{FileBytes, read_inputs, read_joined};
 pub use loaded_request::with_bytes;
 pub use request_run::{carry_out, print_joined};

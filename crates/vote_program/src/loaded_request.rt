@@ -3,12 +3,12 @@
 ghost use Rattle.vote_program.specs.LoadedRequests.{IsLoadedWith};
 ghost use Rattle.vote_request.specs.Requests.{DesksFit};
 
-use crate::inputs::Inputs;
+use crate::inputs::FileBytes;
 use vote_command_line::NamedRequest;
 use vote_commands::LoadedRequest;
 
 /// The request with the bytes of its files. A file that the request does not name has no bytes.
-pub fn with_bytes<'a>(request: &NamedRequest<'a>, inputs: &'a Inputs) -> LoadedRequest<'a>
+pub fn with_bytes<'a>(request: &NamedRequest<'a>, inputs: &'a FileBytes) -> LoadedRequest<'a>
     requires { DesksFit request.now }
     ensures loaded { IsLoadedWith request.now inputs.now result }
     ensures desks { DesksFit result }

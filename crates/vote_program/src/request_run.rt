@@ -8,7 +8,7 @@ ghost use Rattle.vote_files.specs.Sources.{HasRead};
 ghost use Rattle.vote_program.specs.Outputs.{written_by};
 ghost use Rattle.vote_program.specs.RequestEnds.{EndsJoined, EndsRequest, IsRequestDone};
 
-use crate::inputs::{Inputs, read_inputs, read_joined};
+use crate::inputs::{FileBytes, read_inputs, read_joined};
 use crate::loaded_request::with_bytes;
 use std::alloc::Global;
 use vote_audit::{Audited, VoteFault};
@@ -19,7 +19,7 @@ use vote_poll::{Lines, Poll};
 use vote_request::Listing;
 
 /// How a run ends whose inputs were not all read.
-fn unread(fault: RunFault) -> FinishedRun
+fn ended_unread(fault: RunFault) -> FinishedRun
     ensures end { result.end ≡ Err fault }
     ensures none { TellsNoBox result }
 {
@@ -34,7 +34,7 @@ fn unread(fault: RunFault) -> FinishedRun
 fn perform_with<V: FnOnce(&Poll, &Lines<'_>, u8) -> Result<Audited, VoteFault> + Drop, W: Sink>(
     alloc: Global,
     request: &NamedRequest<'_>,
-    inputs: &Inputs,
+    inputs: &FileBytes,
     take: V,
     sink: &mut W,
 ) -> FinishedRun
@@ -64,7 +64,7 @@ pub fn carry_out<
 {
     let inputs = match read_inputs(files, alloc, request) {
         Ok(inputs) => inputs,
-        Err(fault) => return unread(fault),
+        Err(fault) => return ended_unread(fault),
     };
     perform_with(alloc, request, &inputs, take, sink)
 }
@@ -82,7 +82,7 @@ pub fn print_joined<I: StandardInput, W: Sink>(
 {
     let text = match read_joined(input, alloc) {
         Ok(text) => text,
-        Err(fault) => return unread(fault),
+        Err(fault) => return ended_unread(fault),
     };
     let (poll, ballots) = split_joined(text.as_slice());
     perform_listing(alloc, poll, ballots, Listing::Steps, sink)
