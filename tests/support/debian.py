@@ -14,6 +14,13 @@ MODULES = {
     "python3-pytest-xdist": "xdist",
 }
 PROGRAMS = {"gpgv": "gpgv", "gpg": "gpg"}
+# a web host behind a firewall, which `tests/all` needs, too
+FIREWALL = {
+    "php-cli": "/usr/bin/php",
+    "apache2": "/usr/sbin/apache2",
+    "libapache2-mod-security2": "/usr/lib/apache2/modules/mod_security2.so",
+    "modsecurity-crs": "/usr/share/modsecurity-crs/owasp-crs.load",
+}
 
 
 def demand_kit():
@@ -22,19 +29,21 @@ def demand_kit():
         sys.exit("rt is not in PATH: it belongs to the Rattle kit, which README names")
 
 
-def missing():
+def missing(programs=PROGRAMS):
     """The packages that are not installed."""
     modules = [
         package for package, module in MODULES.items() if importlib.util.find_spec(module) is None
     ]
     return modules + [
-        package for package, program in PROGRAMS.items() if shutil.which(program) is None
+        package
+        for package, program in programs.items()
+        if not (shutil.which(program) or os.path.exists(program))
     ]
 
 
-def demand():
+def demand(programs=PROGRAMS):
     """Installs what is missing, before anything is built; if it may not, it says what to type."""
-    packages = missing()
+    packages = missing(programs)
     if not packages:
         return
     install = ["apt-get", "install", "-y", *packages]

@@ -22,16 +22,15 @@ from typing import NamedTuple
 
 from debvote_tools.call.box import asking_word, page_of, records_file, script_of, third_part
 
-from tests.support import sealing
+from tests.support import debian, sealing
 
 PHP, STRACE = shutil.which("php"), shutil.which("strace")
-APACHE = "/usr/sbin/apache2"
-MODULES = "/usr/lib/apache2/modules/mod"
-RULES = "/usr/share/modsecurity-crs/owasp-crs.load"
+_, APACHE, SECURITY, RULES = debian.FIREWALL.values()
+MODULES = SECURITY.removesuffix("_security2.so")
 NEEDS_PHP = unittest.skipUnless(PHP, "php is not installed")
 
 NEEDS_RULES = unittest.skipUnless(
-    all(map(os.path.exists, (APACHE, RULES, f"{MODULES}_security2.so"))),
+    all(map(os.path.exists, debian.FIREWALL.values())),
     "apache2, libapache2-mod-security2 or modsecurity-crs is not installed",
 )
 
