@@ -372,7 +372,7 @@ class World:
         for minute in range(MINUTES + 1):
             if minute in self.desk:
                 box.append(at_time(at(10, minute), self.desk[minute]))
-                last = box[-1].line
+                last = box[-1].ballot.line
             for _, number in [one for one in reads if one[0] == minute]:
                 arrived = [one for one in known if one.box == number and one.minute <= minute]
                 there += [known[one] for one in arrived if known[one] not in there]
@@ -381,7 +381,7 @@ class World:
                     if one.outcome is LetterOutcome.GOES_IN and one.time is not None:
                         decisions[one.read.digest] = queries.ENTERED
                         box.append(at_time(one.time, one.ballots[0].ballot.line, True))
-                        last = box[-1].line
+                        last = box[-1].ballot.line
         becomes = [one.outcome for one in found()]
         assert LetterOutcome.GOES_IN not in becomes
         return last, LetterOutcome.WAITS in becomes

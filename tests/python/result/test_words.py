@@ -9,8 +9,8 @@ from debvote_tools.result.why import Why
 from debvote_tools.sheet import sheet_in
 from debvote_tools.text.ballots import (
     ballot_lines,
+    ballot_of,
     ballots_in_words,
-    line_of,
     part_of,
     ranks_by_label,
 )
@@ -65,7 +65,7 @@ class WordsTest(unittest.TestCase):
         }.items():
             self.assertEqual(ranks_by_label(answers), by_label)
             line = f"ada {answers}"
-            self.assertEqual(line_of("ada", by_label), line)
+            self.assertEqual(ballot_of("ada", by_label).line, line)
             parts = {label: part_of(line.encode(), label) for label in (*by_label, "B")}
             wanted = {label: f"ada {ranks}".encode() for label, ranks in by_label.items()}
             self.assertEqual(parts, wanted | {"B": None})
