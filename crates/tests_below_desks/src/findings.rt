@@ -29,7 +29,7 @@ const FINDINGS: &str = "poll: key title: an integer; a text is wanted\n\
     poll: quorum: 11 found; a quorum is a whole number from 0 to 10: how many times Q is needed, half the square root of the number of electors\n\
     \x20 5 | quorum = 11\n\
     \x20   | ^^^^^^^^^^^\n\
-    poll: wording: \"most\" found; a wording is at_least or more_than\n\
+    poll: wording: \"most\" found; a wording is at_least or more_than: with a ratio S above 1, at_least is met by S votes for it against each vote for the default, more_than only by more\n\
     \x20 7 | wording = \"most\"\n\
     \x20   | ^^^^^^^^^^^^^^^^\n\
     poll: key more.roll is not read; it is read above all tables alone\n\
