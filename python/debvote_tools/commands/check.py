@@ -28,6 +28,7 @@ from debvote_tools.call.draft import (
     title_in,
 )
 from debvote_tools.call.members import AGAIN, Roll, label_of, roll_of
+from debvote_tools.call.tellers import fingerprints, tellers_in
 from debvote_tools.cli.arguments import Options, option
 from debvote_tools.cli.console import count_of, listed, quorum_words, shown_text, tell, wrapped
 from debvote_tools.cli.faults import Fault, bad_words, kept_in, stop_at
@@ -85,6 +86,8 @@ def check(election: Election, arguments: Arguments) -> None:
     else:
         tell(f"The poll is in order: {len(questions[''].names)} options, {electors}.")
     tell_checked(draft)
+    if tellers := tellers_in(election):
+        tell(f"Tellers, in the order in which they open: {fingerprints(tellers)}")
     tell(*notes_on(election, draft))
     if arguments.preview is not None:
         preview(election, draft, pathlib.Path(arguments.preview))

@@ -62,6 +62,7 @@ class Step(enum.Enum):
     ROLL = "roll"
     CHECK = "check"
     CODES = "codes"
+    # with the file of tellers (that is the kind) by clicks alone
     CALL = "call"
     # the `book` (that is the kind) may be the wrong one, or the `clock` of this computer be wrong
     DOUBTS = "doubts"
@@ -201,7 +202,7 @@ def draft(now: Now) -> Iterator[Due]:
     have_codes = now.history.has_codes_on_roll or all(elector.code for elector in now.electors)
     if not have_codes and needs_codes(now.election):
         yield Due(Step.CODES)
-    yield Due(Step.CALL)
+    yield Due(Step.CALL, kind=TELLERS if now.election.path(TELLERS).exists() else "")
 
 
 def needs_codes(election: Election) -> bool:
@@ -454,7 +455,9 @@ def new_words(election: Election, _: Due) -> str:
     return draft_words(polls, election.command("roll"))
 
 
-def call_words(election: Election, _: Due) -> str:
+def call_words(election: Election, due: Due) -> str:
+    if due.kind:
+        return election.command("call", "--box", "--at", "URL", "--until", "YYYY-MM-DD HH:MM")
     command = election.command("call", "--until", "YYYY-MM-DD HH:MM", "--to", "ADDRESS")
     return f"{command} (the end of the vote, and the address for ballots; both are optional)"
 

@@ -184,7 +184,7 @@ class Drafts(ElectionTest):
         text = office.page("draft")
         files = re.findall(r'name="file" value="(.*?)"', text)
         digests = re.findall(r'name="digest" value="(.*?)"', text)
-        self.assertEqual(files, ["poll.toml", "members.csv", "letter.txt"])
+        self.assertEqual(files, ["poll.toml", "tellers.txt", "members.csv", "letter.txt"])
         fields = {
             "file": files,
             "digest": digests,
