@@ -170,6 +170,8 @@ class Now:
         history = self.history
         if not self.is_over:
             yield "call", history.since_call("call", "extend")[-1].number
+        if history.has_void_list:
+            yield "void", history.named("reopen")[-1].number
         if history.is_closed:
             yield "closed", history.closes[-1].number
             if published := history.last_publication:
@@ -538,6 +540,7 @@ OF_KIND = {
     "receipts": ("receipt", "receipts"),
     "reminders": ("reminder", "reminders"),
     "closed": ("letter of the close", "letters of the close"),
+    "void": ("letter about the void list", "letters about the void list"),
     "result": ("letter of the result", "letters of the result"),
 }
 

@@ -561,8 +561,11 @@ class Close(teller_elections.TellerElectionTest):
         self.assertEqual(status, 0, text)
         void = " ".join(self.read("letters/void.txt").decode().split())
         self.assertIn(f"is void, and nobody opens it: {first}", void)
+        self.assertIn("letters about the void list are not sent", self.told("status"))
+        self.assertIn(first, self.texts("void")["ada"])
         opened = self.open(1)
         self.told("close --early --yes")
+        self.refused("letters void", "void: no list of tellers is void")
         self.assertNotEqual(tellers.sha256(self.list_of(0)), "")
         closed = " ".join(self.read("letters/closed.txt").decode().split())
         if tellers.sha256(self.list_of(0)) != first:
