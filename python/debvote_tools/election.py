@@ -158,7 +158,7 @@ class History(NamedTuple):
 
     @property
     def has_void_list(self) -> bool:
-        """Whether the list for the tellers is that of a close after which the vote is open again."""
+        """Whether the tellers have the list of a close after which the vote is open again."""
         return bool(self.tellers) and self.is_reopened
 
     def is_late(self, came_before_close: bool | None) -> bool:

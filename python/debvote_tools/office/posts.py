@@ -105,7 +105,7 @@ def files_of(visit: Visit, field: str) -> list[str]:
 def uploaded(visit: Visit, *files: str) -> list[pathlib.Path]:
     """The folders of those that lie in that of the office, which go with their command."""
     folders = [pathlib.Path(file).parent for file in files]
-    return [folder for folder in folders if folder.parent == visit.office.own]
+    return [one for one in folders if one.parent == visit.office.own and one.name != ".."]
 
 
 def run(visit: Visit, rest: str) -> Answer:
