@@ -2,13 +2,13 @@
 
 import itertools
 import pathlib
-import shutil
 import tempfile
 from collections.abc import Callable, Mapping
 
 from debvote_tools.cli.faults import Fault, bad_words
 from debvote_tools.commands.held import NOT_TIED, VOTED_SINCE
 from debvote_tools.election import CALL, RESULT, URN
+from debvote_tools.files import PUBLIC, write_made
 from debvote_tools.outbox.steps import SAID, Step, published_place
 from debvote_tools.office import acts, desks, drafts, own_programs, state
 from debvote_tools.office.pages import number_of_desk
@@ -220,8 +220,9 @@ def upload(visit: Visit) -> Answer:
 def upload_lists(visit: Visit, own: own_programs.OwnPrograms) -> Answer:
     """Puts the lists of tellers beside the page of the call, and nothing that lies beside them."""
     place = pathlib.Path(tempfile.mkdtemp(dir=visit.office.own))
-    for file in visit.election.path(URN).glob("list-*.txt"):
-        shutil.copy(file, place)
+    lists = visit.election.path(URN).glob("list-*.txt")
+    # programs copy the modes, too, that of the folder for the one on the host
+    write_made(place, {file.name: file.read_bytes() for file in lists}, PUBLIC)
     putting = Task(own.upload_words(place), is_own=True, uploads=[place])
     done = Task(("status", f"--done={Step.UPLOAD.value}"), Place(done=""))
     return follow(visit, visit.office.runs.start(putting, done))

@@ -128,6 +128,8 @@ class OnPaperAndOnTheWeb(teller_elections.TellerElectionTest):
         self.assertIn('value="urn"', text)
         self.assertNotIn('value="urn"', office.post("upload", kind="urn"))
         self.assertEqual((self.web / "list-0.txt").read_bytes(), self.list_of(0))
+        # everybody reads it
+        self.assertEqual((self.web / "list-0.txt").stat().st_mode & 0o777, 0o644)
         # it says who has voted
         self.assertIn("fay paper\n", office.page("print/urn/voted.txt"))
         self.assertFalse((self.web / "voted.txt").exists())
