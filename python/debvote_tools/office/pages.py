@@ -184,7 +184,7 @@ def do(visit: Visit, rest: str) -> Answer:
         "command": command,
         "given": again.task.given if again else visit.query,
         # without tellers nobody types slips or lists
-        "is_pasting": bool(command.pasted) and bool(visit.election.history().tellers),
+        "is_pasting": bool(command.pasted and visit.election.history().tellers),
     }
     return Page("do", values)
 

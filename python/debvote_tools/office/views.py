@@ -45,7 +45,6 @@ def state_of(election: Election) -> Values:
             has_late = bool(state["late"])
             state["questions"] = status.questions_in(election, history, has_late=has_late)
         dues = what_next(election, history)
-        notes = list(words_before_close(election, history))
     return {
         "state": state,
         "history": history,
@@ -55,7 +54,7 @@ def state_of(election: Election) -> Values:
         "results": results_of(election, history, election.decided if questions else None),
         "result_place": published_place(election, history),
         "dues": dues,
-        "notes": notes,
+        "notes": list(words_before_close(election, history)),
         "prints": prints_of(election),
         **previews_of(election),
         "next_folder": "".join(next_place(election)),
