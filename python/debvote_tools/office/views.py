@@ -125,14 +125,14 @@ def casting_facts(history: History, label: str) -> types.SimpleNamespace:
 # ---- what is to be printed
 def prints_of(election: Election) -> list[str]:
     """What letters and codes have made to be printed, by their places in the folder; and what
-    tellers and meeting get.
+    tellers and meeting get of a close that holds.
     """
     files = [
         *sorted(election.path(LETTERS).glob(f"*/*/{TO_PRINT}")),
         election.path(PRIVATE) / SLIPS,
-        election.path(SLIPS_TYPED),
-        *sorted(election.path(URN).glob("*.txt")),
     ]
+    if election.history().is_closed:
+        files += [election.path(SLIPS_TYPED), *sorted(election.path(URN).glob("*.txt"))]
     return [str(file.relative_to(election.folder)) for file in files if file.is_file()]
 
 

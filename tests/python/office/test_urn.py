@@ -133,6 +133,11 @@ class OnPaperAndOnTheWeb(teller_elections.TellerElectionTest):
         # it says who has voted
         self.assertIn("fay paper\n", office.page("print/urn/voted.txt"))
         self.assertFalse((self.web / "voted.txt").exists())
+        # a list that is void is not offered
+        self.assertIn("urn/list-0.txt</a>", office.page())
+        office.agree("do/reopen", because="x")
+        self.assertNotIn("urn/list-0.txt</a>", office.page())
+        self.assertIn("the void list", office.page())
 
 
 class DraftOfSeveral(QuestionsTest):
