@@ -58,7 +58,7 @@ complete -c debvote-election -n "__fish_seen_subcommand_from letters" -l codes -
 complete -c debvote-election -n "__fish_seen_subcommand_from letters" -l yes -d "Answer yes when asked whether to remind again within a day, or to write codes."
 complete -c debvote-election -n "__fish_seen_subcommand_from letters" -l moved -d "Go on although the election was moved here, or an older copy was restored; the result page says so."
 complete -c debvote-election -n "__fish_seen_subcommand_from letters" -l because -x -d "The reason, in your words, for --moved or --force."
-complete -c debvote-election -n "__fish_seen_subcommand_from letters" -a "call receipts reminders closed result"
+complete -c debvote-election -n "__fish_seen_subcommand_from letters" -a "call receipts reminders closed void result"
 complete -c debvote-election -n "__fish_seen_subcommand_from backup" -F
 complete -c debvote-election -n "__fish_seen_subcommand_from add" -l box -d "Ask the web host for the ballots that electors sent by the page of the vote."
 complete -c debvote-election -n "__fish_seen_subcommand_from add" -l look -d "Say what would be entered, and change nothing."

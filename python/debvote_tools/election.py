@@ -156,6 +156,11 @@ class History(NamedTuple):
         """Whether the vote is open again: only what came before the first close is in time."""
         return bool(self.closes) and not self.is_closed
 
+    @property
+    def has_void_list(self) -> bool:
+        """Whether the tellers have the list of a close after which the vote is open again."""
+        return bool(self.tellers) and self.is_reopened
+
     def is_late(self, came_before_close: bool | None) -> bool:
         """Whether lines that are entered now are late, by the answer of whoever enters them."""
         return self.is_closed or (self.is_reopened and not came_before_close)

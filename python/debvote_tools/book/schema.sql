@@ -87,7 +87,7 @@ CREATE TABLE sent (
   sent INTEGER PRIMARY KEY,
   act INTEGER NOT NULL REFERENCES act DEFERRABLE INITIALLY DEFERRED,
   elector INTEGER REFERENCES elector,
-  kind TEXT NOT NULL,                   -- call, receipts, reminders, closed, result
+  kind TEXT NOT NULL,                   -- call, receipts, reminders, closed, void, result
   state TEXT NOT NULL,                  -- written, taken, refused
   detail TEXT NOT NULL                  -- JSON: Message-ID, address, act that it belongs to, what it was about, what the server said
 ) STRICT;

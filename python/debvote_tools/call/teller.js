@@ -136,9 +136,8 @@
 
   async function look() {
     const [file] = filesOf("Page");
-    demand(file, "page");
-    const bytes = await file.arrayBuffer();
-    const text = textOf(bytes);
+    demand(file, "missing");
+    const text = await file.arrayBuffer().then(textOf).catch(() => "");
     const line = byId("Line").value.trim();
     const own = line || (({ name, point }) => `${name} ${point}`)(await keyIn(filesOf("Look-key")));
     const tellers = await tellersOf(text);
@@ -148,7 +147,7 @@
     const prints = await Promise.all(pairs.map(async (pair) => `${pair.split(" ")[0]} ${await fingerprint(pair.split(" ")[1])}`));
     const names = [...text.matchAll(/<bdi class="name">([^<]*)</g)].map((found) => plain(found[1]));
     const title = plain(/<h1 dir="auto">([^<]*)</.exec(text)[1]);
-    say("Looked", sentence("looked", { step, version }), title, ...names, ...prints, `SHA-256: ${await digestOf(bytes)}`);
+    say("Looked", sentence("looked", { step, version }), title, ...names, ...prints, `SHA-256: ${await digestOf(await file.arrayBuffer())}`);
   }
 
   // ---- the lists

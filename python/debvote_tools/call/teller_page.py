@@ -34,7 +34,7 @@ SENTENCES = marked(
         "form": "A file is none of these, or was changed.",
         "name": "A name has only small letters without accents, digits, points and hyphens, and at most 32 of them.",
         "key": "Choose the key, or both halves of one key.",
-        "page": "This is no page of a vote with tellers as this version makes it. Tell the secretary; if it stays so, tell all members.",
+        "page": "This is no page of a vote with tellers, byte for byte as this version makes it. A browser changes a page that it saves as complete or as a single file: save it once more, as HTML only. If it stays so, tell the secretary and all members.",
         "another": "THIS PAGE SEALS TO ANOTHER KEY: tell all members.",
         "looked": "This page seals step {step} to this key. It is as version {version} makes it. Compare its title, options and fingerprints with your letter.",
         "missing": "Choose all files.",

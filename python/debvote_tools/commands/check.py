@@ -28,6 +28,7 @@ from debvote_tools.call.draft import (
     title_in,
 )
 from debvote_tools.call.members import AGAIN, Roll, label_of, roll_of
+from debvote_tools.call.tellers import check_off, fingerprints, public_poll, tellers_in
 from debvote_tools.cli.arguments import Options, option
 from debvote_tools.cli.console import count_of, listed, quorum_words, shown_text, tell, wrapped
 from debvote_tools.cli.faults import Fault, bad_words, kept_in, stop_at
@@ -85,6 +86,8 @@ def check(election: Election, arguments: Arguments) -> None:
     else:
         tell(f"The poll is in order: {len(questions[''].names)} options, {electors}.")
     tell_checked(draft)
+    if tellers := tellers_in(election):
+        tell(f"Tellers, in the order in which they open: {fingerprints(tellers)}")
     tell(*notes_on(election, draft))
     if arguments.preview is not None:
         preview(election, draft, pathlib.Path(arguments.preview))
@@ -188,28 +191,38 @@ def preview(election: Election, draft: Checked, folder: pathlib.Path) -> None:
     """
     # what makes pages takes a while to be imported
     from debvote_tools.call.call import call_files, current_call
-    from debvote_tools.call.secret import aliased, slips
+    from debvote_tools.call.secret import blank_slips, slips
     from debvote_tools.outbox.words import Composer
 
     demand_new(election, folder, "folder")
     electors = queries.electors(election.book)
-    has_aliases = (
-        draft.questions.is_secret
-        and not draft.lacks_codes
-        and not election.history().has_codes_on_roll
-    )
-    public = aliased(draft.questions, electors) if has_aliases else draft.questions
-    sealed = Sealed(public, draft.questions)
-    call = current_call(election, said={"quorum_votes": draft.quorums}, sealed=sealed)
-    call = dataclasses.replace(call, letter_text=draft.letter_text)
+    tellers = tellers_in(election)
+    said = {"quorum_votes": draft.quorums, "tellers": tellers}
+    call = current_call(election, said=said, sealed=previewed(election, draft, bool(tellers)))
+    # with tellers electors vote by clicks, which go nowhere yet
+    box_key = bytes(32) if tellers else b""
+    call = dataclasses.replace(call, letter_text=draft.letter_text, box_key=box_key)
     files = call_files(call)
     for elector in () if call.has_codes_on_roll else electors[:1]:
         text = Composer(call, is_over=False).call_letter(elector, is_extension=False).text
         files["letter.txt"] = text.encode()
     if draft.questions.is_secret and not draft.lacks_codes:
-        files["slip.html"] = slips(call, electors[:1])
+        files["slip.html"] = blank_slips(call, 1) if tellers else slips(call, electors[:1])
     write_made(folder, files, OWN)
     tell(f"Made the folder {folder}, to be looked at: it is no call.")
+
+
+def previewed(election: Election, draft: Checked, has_tellers: bool) -> Sealed:
+    """The polls as a call would seal them."""
+    from debvote_tools.call.secret import aliased
+
+    questions = draft.questions
+    if has_tellers:
+        return Sealed(public_poll(questions), check_off(questions))
+    has_codes = not (draft.lacks_codes or election.history().has_codes_on_roll)
+    if questions.is_secret and has_codes:
+        return Sealed(aliased(questions, queries.electors(election.book)), questions)
+    return Sealed(questions, questions)
 
 
 # ---- what letters quote

@@ -53,7 +53,7 @@ class Arguments(Acting):
 
     kind: str | None = positional(
         "KIND",
-        "call, receipts, reminders, closed or result (default, to send: all that are made and not sent, but for reminders)",
+        "call, receipts, reminders, closed, void or result (default, to send: all that are made and not sent, but for reminders)",
         choices=list(SUBJECTS),
         nargs="?",
     )
@@ -167,6 +167,8 @@ def kinds_ready(election: Election, history: History) -> Iterator[str]:
     if not (history.is_over(times.now()) or (has_codes and not history.runs_of_call)):
         yield "call"
     yield "receipts"
+    if history.has_void_list:
+        yield "void"
     if history.is_closed:
         yield "closed"
     if history.stage == "published" and history.announced("at"):

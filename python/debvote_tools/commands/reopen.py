@@ -5,18 +5,16 @@ from collections.abc import Iterator
 from debvote_tools.book import queries
 from debvote_tools.book.change import Change, carried_out, terminal_question
 from debvote_tools.cli.arguments import Acting, demand_reason, flag, option
-from debvote_tools.call.call import current_call
-from debvote_tools.call.form import PACKAGE
 from debvote_tools.call.tellers import demand_openable
 from debvote_tools.cli.console import act_time, is_terminal, is_yes, listed, shown_line, tell
 from debvote_tools.cli.faults import Fault
-from debvote_tools.election import LETTERS, Election, History, fixed_by
+from debvote_tools.election import LETTERS, Election, History
 from debvote_tools.files import OWN, write_made
 from debvote_tools.grouping import grouped
 from debvote_tools.inbox.taking import MOST_NAMED
 from debvote_tools.inbox.vote import Vote
 from debvote_tools.outbox.steps import tell_next
-from debvote_tools.text.rendering import render_letter
+from debvote_tools.result.publication import void_letter
 
 # the letter to all about a list that nobody opens
 VOID = "void.txt"
@@ -40,9 +38,13 @@ def reopen(election: Election, arguments: Arguments) -> None:
         "What is late stays late: if it arrived before, enter it again, with add FILE --came-before-close yes or at a desk.",
     )
     if history.tellers:
+        # what writes letters takes a while to be imported
+        from debvote_tools.commands.letters import write_ready
+
         write_made(election.path(LETTERS), {VOID: void_letter(election, history)}, OWN)
         tell(
-            f"Send {election.path(LETTERS)}/{VOID} to all electors now: nobody may open the list of before."
+            f"Send {election.path(LETTERS)}/{VOID} to all electors now: nobody may open the list of before.",
+            *write_ready(election, "void"),
         )
     tell_next(election)
 
@@ -99,13 +101,6 @@ def demand_unopened(history: History) -> None:
             words,
             "ask first, and run the command at a terminal; if it was opened, hold the vote anew with new keys",
         )
-
-
-def void_letter(election: Election, history: History) -> bytes:
-    """The letter to all that nobody opens the list of the last close."""
-    checksum = fixed_by(history.closes[-1])[""].checksum
-    call = current_call(election, history)
-    return render_letter(PACKAGE, "void.txt", call.language, call=call, checksum=checksum).encode()
 
 
 def demand_closed(election: Election, history: History) -> None:

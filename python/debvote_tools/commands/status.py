@@ -22,7 +22,7 @@ from debvote_tools.cli.faults import Fault, stop_at
 from debvote_tools.election import Election, History
 from debvote_tools.inbox import letter_words
 from debvote_tools.inbox.asked import asked_last, asked_words, with_lost_records
-from debvote_tools.inbox.urn import faults_of_ballots, few_slips_words
+from debvote_tools.inbox.urn import words_before_close
 from debvote_tools.inbox.stopping import Pending, pending_letters, taken_out_words
 from debvote_tools.inbox.vote import Vote, envelope_words
 from debvote_tools.outbox.reached import unreached_and_printed
@@ -185,9 +185,7 @@ def state_words(
         yield taken_out_words(election, history)
     yield f"Electors with a valid ballot: {state['voters']} of {state['electors']}"
     yield from asked_words(history)
-    if history.tellers and not history.is_closed:
-        yield from (f"Before the close: {fault.reason}" for fault in faults_of_ballots(election))
-        yield from few_slips_words(election)
+    yield from words_before_close(election, history)
     yield from named(
         "Ballots that nobody can open, and no later ones, by the links of", state["lost"]
     )

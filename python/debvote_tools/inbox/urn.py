@@ -76,8 +76,13 @@ def faults_of_equal(
     yield Fault(None, words, f"run {strike}, and ask {later.elector} to vote again")
 
 
-def few_slips_words(election: Election) -> Iterator[str]:
-    """What is said while one can vote of so few on paper that each would be known."""
+def words_before_close(election: Election, history: History) -> Iterator[str]:
+    """What is said while one can vote of clicks that do not count, and of so few, or so few on
+    paper, that each would be known.
+    """
+    if history.is_closed or not history.tellers:
+        return
+    yield from (f"Before the close: {fault.reason}" for fault in faults_of_ballots(election))
     number = len(queries.electors_with(election.book, ON_PAPER))
     if 0 < number < FEWEST:
         yield f"Before the close: {count_of(number, 'elector')} voted on paper, and of fewer than {FEWEST} slips each may be known"

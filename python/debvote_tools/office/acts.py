@@ -12,6 +12,8 @@ APART = ("desk", "new")
 # what no form has: what a command asks is answered when it is asked, and who needs to say that a
 # book was moved reads first what that means
 NO_FIELD = ("yes", "moved")
+# what is in the files of these is pasted, or the files are uploaded: slips, and lists of tellers
+PASTED = ("paper", "lists")
 
 
 @dataclasses.dataclass(frozen=True)
@@ -26,6 +28,10 @@ class Field:
     is_flag: bool
     is_several: bool
     is_positional: bool
+
+    @property
+    def is_pasted(self) -> bool:
+        return self.name in PASTED
 
     def words(self, given: Sequence[str]) -> list[str]:
         """What would be typed; each value is part of its option, so that none reads as another."""
@@ -45,6 +51,10 @@ class Form:
     name: str
     help: str
     fields: Sequence[Field]
+
+    @property
+    def pasted(self) -> list[Field]:
+        return [field for field in self.fields if field.is_pasted]
 
     def words(self, given: Mapping[str, Sequence[str]]) -> list[str]:
         """The whole command; what has no option is behind `--`."""

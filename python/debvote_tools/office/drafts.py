@@ -13,7 +13,7 @@ from typing import Any
 
 from debvote_tools.call.draft import BY_EDITOR, labels_in
 from debvote_tools.cli.faults import Fault
-from debvote_tools.election import LETTER_TEXT, MEMBERS_FILE, POLLS, Election
+from debvote_tools.election import LETTER_TEXT, MEMBERS_FILE, POLLS, TELLERS, Election
 from debvote_tools.files import sha256_of, write_whole
 from debvote_tools.office.views import Values
 from debvote_tools.office.visit import Form, first
@@ -22,6 +22,9 @@ from debvote_tools.text.motions import WORDS
 
 # how many empty rows there are for more options
 MORE = 3
+# who may know how somebody has voted: the secretary, or nobody
+SECRET = "1"
+BY_TELLERS = "2"
 # a file that is not there
 NOWHERE = ""
 
@@ -30,11 +33,14 @@ def draft_of(election: Election) -> Values:
     """The files as fields, with the digest of each as it is now."""
     polls = {label: poll_fields(election.path(name_of(label))) for label in labels(election)}
     names = names_of(election)
+    tellers = election.path(TELLERS)
     return {
         "polls": polls,
         "title": text_of(election.path(f"{POLLS}/{TITLE_FILE}")).strip(),
         "is_several": "" not in polls,
         "is_secret": any(poll["secret"] for poll in polls.values()),
+        "has_tellers": "" in polls and tellers.exists(),
+        "tellers": text_of(tellers).strip(),
         "members": text_of(election.path(MEMBERS_FILE)),
         "letter": text_of(election.path(LETTER_TEXT)),
         "digests": {name: digest_of(election.path(name)) for name in names},
@@ -53,8 +59,8 @@ def name_of(label: str) -> str:
 def names_of(election: Election) -> list[str]:
     """The files that a form has."""
     polls = [name_of(label) for label in labels(election)]
-    title = [f"{POLLS}/{TITLE_FILE}"] if POLL_FILE not in polls else []
-    return [*polls, *title, MEMBERS_FILE, LETTER_TEXT]
+    more = TELLERS if POLL_FILE in polls else f"{POLLS}/{TITLE_FILE}"
+    return [*polls, more, MEMBERS_FILE, LETTER_TEXT]
 
 
 def text_of(file: pathlib.Path) -> str:
@@ -119,7 +125,9 @@ def save(election: Election, form: Form) -> list[str]:
     for name, text in new.items():
         file = election.path(name)
         is_new = digest_of(file) == NOWHERE
-        if text != text_of(file) and (text or not is_new):
+        if name == TELLERS and not text:
+            file.unlink(missing_ok=True)
+        elif text != text_of(file) and (text or not is_new):
             write_whole(file, text.encode(), 0o600)
     return []
 
@@ -139,6 +147,10 @@ def polls_in(election: Election, form: Form) -> dict[str, str]:
     }
     if POLL_FILE not in files:
         files[f"{POLLS}/{TITLE_FILE}"] = plain(form, "title")
+    else:
+        # without a teller the file says that some are lacking
+        tellers = plain(form, "tellers") or "\n"
+        files[TELLERS] = tellers if first(form, "secret") == BY_TELLERS else ""
     return files
 
 
@@ -148,7 +160,7 @@ def values_in(form: Form, label: str, language: str) -> Values:
         "title": first(form, f"title{label}").strip(),
         "quorum": number_in(form, f"quorum{label}"),
         "motion": first(form, f"kind{label}") == "motion",
-        "secret": first(form, "secret") == "1",
+        "secret": first(form, "secret") in (SECRET, BY_TELLERS),
     }
     if values["motion"]:
         yes, no, _ = WORDS[language]

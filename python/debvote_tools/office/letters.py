@@ -2,6 +2,7 @@
 
 from collections.abc import Mapping, Sequence
 
+from debvote_tools.call.tellers import ON_PAPER
 from debvote_tools.commands import held
 from debvote_tools.election import Election
 from debvote_tools.inbox import letter_words
@@ -77,6 +78,7 @@ def letter_of(election: Election, language: Language, number: int) -> Values | N
         "reasons_to_ask": reasons_to_ask(letter),
         "next": next_of(letters, number),
         "questions": vote.questions,
+        "on_paper": ON_PAPER if vote.has_tellers else "",
     }
 
 

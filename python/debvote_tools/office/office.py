@@ -72,6 +72,15 @@ class Office:
         with open(handle, "w", encoding="utf-8") as file:
             file.write(LEADS.format(self.address()))
 
+    def kept(self, given: str, data: bytes) -> pathlib.Path:
+        """Where a file lies that was uploaded, with a plain name like its own."""
+        name = pathlib.PurePath(given.replace("\\", "/")).name
+        plain = "".join(sign if sign.isalnum() or sign in "._-" else "_" for sign in name)
+        place = pathlib.Path(tempfile.mkdtemp(dir=self.own))
+        file = place / (plain.lstrip(".-")[-80:] or "letters")
+        file.write_bytes(data)
+        return file
+
     # ---- the election
     def open(self, folder: pathlib.Path) -> None:
         """Opens the election of a folder. Raises `Taken` if another office has it, and a fault if

@@ -37,6 +37,7 @@ PRINT_POLICY = "sandbox; default-src 'none'; style-src 'unsafe-inline'; frame-an
 # what is to be printed, by its place in the folder
 PRINTED = re.compile(
     r"letters/[a-z]+/\d+/to-print\.html|private/slips\.html"
+    r"|private/paper\.txt|urn/(?:voted|list-\d)\.txt"
     r"|preview(?:-\d+)?/(?:index\.html|slip\.html|letter\.txt)"
 )
 # in bytes
@@ -177,7 +178,15 @@ def all_commands(visit: Visit) -> Answer:
 def do(visit: Visit, rest: str) -> Answer:
     if not acts.is_command(rest):
         raise Refused()
-    return Page("do", {"command": acts.form_of(rest), "given": visit.query})
+    command = acts.form_of(rest)
+    again = visit.run_in("again")
+    values = {
+        "command": command,
+        "given": again.task.given if again else visit.query,
+        # without tellers nobody types slips or lists
+        "is_pasting": bool(command.pasted and visit.election.history().tellers),
+    }
+    return Page("do", values)
 
 
 def run(visit: Visit, rest: str) -> Answer:

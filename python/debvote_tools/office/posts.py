@@ -1,12 +1,15 @@
 """What each form does: it starts a command, answers one, or writes a draft."""
 
+import itertools
 import pathlib
+import tempfile
 from collections.abc import Callable, Mapping
 
 from debvote_tools.cli.faults import Fault, bad_words
 from debvote_tools.commands.held import NOT_TIED, VOTED_SINCE
-from debvote_tools.election import CALL, RESULT
-from debvote_tools.outbox.steps import SAID, published_place
+from debvote_tools.election import CALL, RESULT, URN
+from debvote_tools.files import PUBLIC, write_made
+from debvote_tools.outbox.steps import SAID, Step, published_place
 from debvote_tools.office import acts, desks, drafts, own_programs, state
 from debvote_tools.office.pages import number_of_desk
 from debvote_tools.office.runs import Place, Run, Task
@@ -78,12 +81,31 @@ def new(visit: Visit) -> Answer:
 def do(visit: Visit, rest: str) -> Answer:
     if not acts.is_command(rest):
         raise Refused()
+    command = acts.form_of(rest)
     back = first(visit.form, "back")
     # of several ties each option that was chosen has a name of its own
     chosen = [value[0] for name, value in visit.form.items() if name.startswith("casting")]
-    words = acts.form_of(rest).words({**visit.form, "casting": chosen})
-    places = Place(done=back if back in BACK else None)
-    return follow(visit, visit.office.runs.command(*words, places=places))
+    files = {field.name: files_of(visit, field.name) for field in command.pasted}
+    task = Task(
+        command.words({**visit.form, "casting": chosen, **files}),
+        Place(done=back if back in BACK else None),
+        uploads=uploaded(visit, *itertools.chain(*files.values())),
+        given=visit.form if files else {},
+    )
+    return follow(visit, visit.office.runs.start(task))
+
+
+def files_of(visit: Visit, field: str) -> list[str]:
+    """What was pasted into a field, as a file; else those that were uploaded."""
+    if pasted := drafts.plain(visit.form, field):
+        return [str(visit.office.kept(f"{field}.txt", pasted.encode()))]
+    return [file for file in visit.form.get(f"{field}-file", ()) if file]
+
+
+def uploaded(visit: Visit, *files: str) -> list[pathlib.Path]:
+    """The folders of those that lie in that of the office, which go with their command."""
+    folders = [pathlib.Path(file).parent for file in files]
+    return [one for one in folders if one.parent == visit.office.own and one.name != ".."]
 
 
 def run(visit: Visit, rest: str) -> Answer:
@@ -128,9 +150,8 @@ def letters(visit: Visit, rest: str) -> Answer:
 
 def adding(visit: Visit, *files: str) -> Task:
     """A command that adds letters: what it asks, the page of the letters asks."""
-    parents = [pathlib.Path(file).parent for file in files]
-    uploads = [folder for folder in parents if folder.parent == visit.office.own]
-    return Task(("add", "--", *files), Place("letters", "letters"), uploads=uploads)
+    place = Place("letters", "letters")
+    return Task(("add", "--", *files), place, uploads=uploaded(visit, *files))
 
 
 # ---- the desk
@@ -180,6 +201,8 @@ def upload(visit: Visit) -> Answer:
     own = agreed(visit)
     history = visit.election.history()
     kind = first(visit.form, "kind")
+    if kind == URN:
+        return upload_lists(visit, own)
     place = visit.election.path(CALL)
     if kind == RESULT:
         published = published_place(visit.election, history)
@@ -192,6 +215,17 @@ def upload(visit: Visit) -> Answer:
         before = [ask] if history.askings else []
         tasks = [*before, *tasks, ask]
     return follow(visit, visit.office.runs.start(*tasks))
+
+
+def upload_lists(visit: Visit, own: own_programs.OwnPrograms) -> Answer:
+    """Puts the lists of tellers beside the page of the call, and nothing that lies beside them."""
+    place = pathlib.Path(tempfile.mkdtemp(dir=visit.office.own))
+    lists = visit.election.path(URN).glob("list-*.txt")
+    # programs copy the modes, too, that of the folder for the one on the host
+    write_made(place, {file.name: file.read_bytes() for file in lists}, PUBLIC)
+    putting = Task(own.upload_words(place), is_own=True, uploads=[place])
+    done = Task(("status", f"--done={Step.UPLOAD.value}"), Place(done=""))
+    return follow(visit, visit.office.runs.start(putting, done))
 
 
 def fetch(visit: Visit) -> Answer:

@@ -75,6 +75,8 @@ class Task(NamedTuple):
     needs: bool = True
     # the folders of what was uploaded for it, which are removed at its end
     uploads: Sequence[pathlib.Path] = ()
+    # what its form had: after a fault it is filled in again
+    given: Mapping[str, Sequence[str]] = {}
 
 
 class Run:

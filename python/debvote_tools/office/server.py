@@ -15,7 +15,6 @@ import hmac
 import http
 import http.server
 import pathlib
-import tempfile
 import threading
 import time
 import urllib.parse
@@ -242,18 +241,9 @@ class Request(http.server.BaseHTTPRequestHandler):
             data = part.get_payload(decode=True) or b""
             assert isinstance(data, bytes)
             if given := part.get_filename():
-                data = str(self.kept(given, data)).encode()
+                data = str(self.server.office.kept(given, data)).encode()
             form.setdefault(str(name), []).append(data.decode())
         return form
-
-    def kept(self, given: str, data: bytes) -> pathlib.Path:
-        """Where an uploaded file lies, with a plain name like its own."""
-        name = pathlib.PurePath(given.replace("\\", "/")).name
-        plain = "".join(sign if sign.isalnum() or sign in "._-" else "_" for sign in name)
-        place = pathlib.Path(tempfile.mkdtemp(dir=self.server.office.own))
-        file = place / (plain.lstrip(".-")[-80:] or "letters")
-        file.write_bytes(data)
-        return file
 
 
 @functools.cache

@@ -7,10 +7,12 @@ from collections.abc import Mapping, Sequence
 from typing import Any
 
 from debvote_tools.book import queries
+from debvote_tools.call.tellers import SLIPS_TYPED
 from debvote_tools.cli.console import shown_text
 from debvote_tools.commands import status
 from debvote_tools.commands.codes import SLIPS
-from debvote_tools.election import LETTERS, PRIVATE, Election, History
+from debvote_tools.election import LETTERS, PRIVATE, URN, Election, History
+from debvote_tools.inbox.urn import words_before_close
 from debvote_tools.outbox.letter_folder import TO_PRINT
 from debvote_tools.outbox.steps import next_place, published_place, what_next
 from debvote_tools.poll.plain_names import alike
@@ -52,6 +54,7 @@ def state_of(election: Election) -> Values:
         "results": results_of(election, history, election.decided if questions else None),
         "result_place": published_place(election, history),
         "dues": dues,
+        "notes": list(words_before_close(election, history)),
         "prints": prints_of(election),
         **previews_of(election),
         "next_folder": "".join(next_place(election)),
@@ -121,11 +124,15 @@ def casting_facts(history: History, label: str) -> types.SimpleNamespace:
 
 # ---- what is to be printed
 def prints_of(election: Election) -> list[str]:
-    """What letters and codes have made to be printed, by their places in the folder."""
+    """What letters and codes have made to be printed, by their places in the folder; and what
+    tellers and meeting get of a close that holds.
+    """
     files = [
         *sorted(election.path(LETTERS).glob(f"*/*/{TO_PRINT}")),
         election.path(PRIVATE) / SLIPS,
     ]
+    if election.history().is_closed:
+        files += [election.path(SLIPS_TYPED), *sorted(election.path(URN).glob("*.txt"))]
     return [str(file.relative_to(election.folder)) for file in files if file.is_file()]
 
 

@@ -18,8 +18,8 @@ from debvote_tools.inbox.fates import COUNTS, NOBODY, Fate, fates_of, told_of
 from debvote_tools.inbox.rules import LetterOutcome
 from debvote_tools.inbox.stopping import pending_letters, what_stops
 from debvote_tools.outbox.reached import NO_LETTER, page_since, unreached, unreached_and_printed
-from debvote_tools.outbox.words import CORRECTED, DECIDED, Composer, OutgoingText
-from debvote_tools.result.publication import closing_letter
+from debvote_tools.outbox.words import CORRECTED, DECIDED, SUBJECTS, Composer, OutgoingText
+from debvote_tools.result.publication import closing_letter, void_letter
 from debvote_tools.text.addresses import address_in
 from debvote_tools.text.language import language_of
 from debvote_tools.text.times import now
@@ -222,12 +222,14 @@ def demand_due(election: Election, history: History, kind: str, *, is_over: bool
         raise Fault("letters", words, cure)
     if kind == "result" and history.is_closed:
         demand_nothing_stops(election, history, kind)
+    cure = f"see {election.command('status')}"
     if kind in ("call", "reminders") and is_over:
         words = "the vote is over, so nobody is asked to vote"
-        cure = f"see {election.command('status')}"
     elif kind == "call" and history.announced("box") and history.until is None:
         words = "the call has a web box, and says no end of the vote"
         cure = f"say it: {election.command('call', '--until', 'TIME')}"
+    elif kind == "void" and not history.has_void_list:
+        words = "no list of tellers is void"
     elif kind in ("closed", "result") and not history.is_closed:
         words = "the vote is not closed"
         cure = f"run {election.command('close')} first"
@@ -430,6 +432,16 @@ def letters_of_close_due(run: Run) -> LettersDue:
     )
 
 
+def void_letters_due(run: Run) -> LettersDue:
+    """The letter to each elector that nobody opens the list of the last close."""
+    text = void_letter(run.election, run.history).decode()
+    return to_each(
+        run,
+        run.history.named("reopen")[-1].number,
+        lambda elector, _: run.composer.letter("closed", elector, SUBJECTS["void"], letter=text),
+    )
+
+
 def results_due(run: Run) -> LettersDue:
     """The letter of the last publication to each elector, with the ballot of theirs that counts."""
     act = run.history.publications[-1].number
@@ -475,6 +487,7 @@ OF_KINDS = {
     "reminders": reminders_due,
     "receipts": receipts_due,
     "closed": letters_of_close_due,
+    "void": void_letters_due,
     "result": results_due,
 }
 

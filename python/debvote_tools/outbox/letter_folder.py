@@ -126,8 +126,8 @@ def letter_files(due: LettersDue, letters: Sequence[OutgoingLetter]) -> dict[str
             is_secret=call.questions.is_secret,
             letters=printed,
             picture_of=picture_of,
-            # letters of other kinds begin with the secretary's own words
-            sender=sender if due.kind in ("receipts", "closed", "result") else "",
+            # these begin with the secretary's own words
+            sender="" if due.kind in ("call", "reminders") else sender,
         )
     return files
 

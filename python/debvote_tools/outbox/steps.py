@@ -62,6 +62,7 @@ class Step(enum.Enum):
     ROLL = "roll"
     CHECK = "check"
     CODES = "codes"
+    # with the file of tellers (that is the kind) by clicks alone
     CALL = "call"
     # the `book` (that is the kind) may be the wrong one, or the `clock` of this computer be wrong
     DOUBTS = "doubts"
@@ -169,6 +170,8 @@ class Now:
         history = self.history
         if not self.is_over:
             yield "call", history.since_call("call", "extend")[-1].number
+        if history.has_void_list:
+            yield "void", history.named("reopen")[-1].number
         if history.is_closed:
             yield "closed", history.closes[-1].number
             if published := history.last_publication:
@@ -201,7 +204,7 @@ def draft(now: Now) -> Iterator[Due]:
     have_codes = now.history.has_codes_on_roll or all(elector.code for elector in now.electors)
     if not have_codes and needs_codes(now.election):
         yield Due(Step.CODES)
-    yield Due(Step.CALL)
+    yield Due(Step.CALL, kind=TELLERS if now.election.path(TELLERS).exists() else "")
 
 
 def needs_codes(election: Election) -> bool:
@@ -454,7 +457,9 @@ def new_words(election: Election, _: Due) -> str:
     return draft_words(polls, election.command("roll"))
 
 
-def call_words(election: Election, _: Due) -> str:
+def call_words(election: Election, due: Due) -> str:
+    if due.kind:
+        return election.command("call", "--box", "--at", "URL", "--until", "YYYY-MM-DD HH:MM")
     command = election.command("call", "--until", "YYYY-MM-DD HH:MM", "--to", "ADDRESS")
     return f"{command} (the end of the vote, and the address for ballots; both are optional)"
 
@@ -535,6 +540,7 @@ OF_KIND = {
     "receipts": ("receipt", "receipts"),
     "reminders": ("reminder", "reminders"),
     "closed": ("letter of the close", "letters of the close"),
+    "void": ("letter about the void list", "letters about the void list"),
     "result": ("letter of the result", "letters of the result"),
 }
 

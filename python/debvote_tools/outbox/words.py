@@ -36,6 +36,7 @@ SUBJECTS = marked(
         "receipts": "Receipt: {title}",
         "reminders": "Not yet voted: {title}",
         "closed": "Vote closed: {title}",
+        "void": "Void list: {title}",
         "result": "Result: {title}",
     }
 )

@@ -302,6 +302,17 @@ def closing_letter(election: Election, history: History) -> bytes:
     ).encode()
 
 
+def void_letter(election: Election, history: History) -> bytes:
+    """The letter to all that nobody opens the list of the last close, since the vote is open
+    again.
+    """
+    questions = election.sealed().public
+    checksum = fixed_by(history.closes[-1])[""].checksum
+    return render_letter(
+        __package__, "void.txt", election.language, questions=questions, checksum=checksum
+    ).encode()
+
+
 def address_and_time(election: Election, history: History) -> dict[str, str]:
     """With tellers where list 0 lies, and when it is opened by mail: after a day to see it."""
     day = history.closes[-1].time.astimezone(history.zone) + datetime.timedelta(days=1)

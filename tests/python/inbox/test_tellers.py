@@ -11,7 +11,7 @@ import unittest
 
 from debvote_tools.call.lists import list_name, read_list, text_of
 
-from tests.support import elections, offices, teller_elections, tellers
+from tests.support import elections, teller_elections, tellers
 from tests.support.boxes import now
 from tests.support.elections import ELECTION
 from tests.support.program import ROOT
@@ -182,17 +182,12 @@ class WholeVote(teller_elections.TellerElectionTest):
         ]
         self.assertEqual(typed, ["1,-,-,-", "1,1,1,2", "1,2,-,3", "2,1,3,4", "2,1,3,4"])
         self.refused("count", "the tellers have not opened all layers yet")
-        office = offices.Office(self)
-        self.assertRegex(
-            offices.seen(office.page()), "carla opens /.*/urn/list-0.txt , in the hall"
-        )
         self.opened()
         paper = self.read("private/paper.txt").decode().splitlines()
         self.assertEqual(self.ballots(), sorted([*self.lines.values(), *paper]))
         self.assertIn("Electors: 12\n", self.told("count"))
         self.assertEqual(json.loads(self.told("status --json"))["voters"], 10)
         self.told("publish", "--yes")
-        self.assertIn("Has won At the lake", offices.seen(office.page()))
         self.published()
         self.told("letters", "result")
         text = self.texts("result")["ada"]
@@ -561,8 +556,11 @@ class Close(teller_elections.TellerElectionTest):
         self.assertEqual(status, 0, text)
         void = " ".join(self.read("letters/void.txt").decode().split())
         self.assertIn(f"is void, and nobody opens it: {first}", void)
+        self.assertIn("letters about the void list are not sent", self.told("status"))
+        self.assertIn(first, self.texts("void")["ada"])
         opened = self.open(1)
         self.told("close --early --yes")
+        self.refused("letters void", "void: no list of tellers is void")
         self.assertNotEqual(tellers.sha256(self.list_of(0)), "")
         closed = " ".join(self.read("letters/closed.txt").decode().split())
         if tellers.sha256(self.list_of(0)) != first:

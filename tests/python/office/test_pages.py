@@ -4,7 +4,7 @@ import re
 import shutil
 import subprocess
 
-from tests.support import elections, offices
+from tests.support import elections, offices, tellers
 from tests.support.elections import POLL, ElectionTest
 from tests.support.questions import FEE, QuestionsTest
 
@@ -184,7 +184,7 @@ class Drafts(ElectionTest):
         text = office.page("draft")
         files = re.findall(r'name="file" value="(.*?)"', text)
         digests = re.findall(r'name="digest" value="(.*?)"', text)
-        self.assertEqual(files, ["poll.toml", "members.csv", "letter.txt"])
+        self.assertEqual(files, ["poll.toml", "tellers.txt", "members.csv", "letter.txt"])
         fields = {
             "file": files,
             "digest": digests,
@@ -227,7 +227,19 @@ class Drafts(ElectionTest):
         office.post("draft", **{**fields, **motion})
         self.assertIn("We buy it", self.done("check").output)
         self.assertIn("motion = true", (self.folder / "poll.toml").read_text())
+        digests = re.findall(r'name="digest" value="(.*?)"', office.page("draft"))
+        office.post("draft", **{**fields, **motion, "secret": "2", "digest": digests})
+        # nobody holds a vote without tellers who has chosen some
+        self.refused("check", "tellers.txt: it is empty", status=2)
+        self.assertIn("do/call?box=1", office.page())
+        self.assertIn("call --box --at URL", self.done("status").output)
+        text = office.page("draft")
+        self.assertIn('value="2" checked', text)
+        digests = re.findall(r'name="digest" value="(.*?)"', text)
+        office.post("draft", **{**fields, **motion, "secret": "1", "digest": digests})
+        self.assertFalse((self.folder / "tellers.txt").exists())
         poll = (self.folder / "poll.toml").read_text()
+        self.assertIn("secret = true", poll)
         (self.folder / "poll.toml").write_text(
             re.sub(r'(?m)^options = \["', 'options = [\n"', poll)
         )
@@ -252,5 +264,13 @@ class PreviewOfSecretVote(ElectionTest):
         page = self.read("preview/index.html").decode()
         self.assertNotIn(code, page)
         self.assertEqual((self.folder / "preview").stat().st_mode & 0o777, 0o700)
+        self.write("tellers.txt", tellers.tellers_file())
+        self.done("check", "--preview", "sealed")
+        self.assertIn('roll = ["01", "02", "03"', self.read("sealed/poll.toml").decode())
+        self.assertIn(
+            "sealed to the tellers carla and dora", self.read("sealed/letter.txt").decode()
+        )
+        self.assertNotIn(code, self.read("sealed/slip.html").decode())
+        (self.folder / "tellers.txt").unlink()
         self.done("call")
         self.assertEqual(self.read("call/poll.toml"), self.read("preview/poll.toml"))

@@ -100,7 +100,7 @@ class Ready(SendTest):
         self.assertEqual([closed in one.data.decode() for one in self.server.taken[1:]], [True] * 4)
 
     def test_words(self):
-        fault = "letters: no kind is named; nothing was written: name one of call, receipts, reminders, closed, result; only --send goes without it"
+        fault = "letters: no kind is named; nothing was written: name one of call, receipts, reminders, closed, void, result; only --send goes without it"
         self.assert_refused(["letters"], 2, fault)
         send = ("letters", "--send", "--server", self.server.name)
         self.assert_refused([*send, "--force", "--because", "x"], 2, "letters: no kind is named")

@@ -128,6 +128,7 @@ def letters(now: Composer, answers: str = "1,2,3") -> list[OutgoingText]:
         now.reminder(ADA, []),
         now.receipt(ADA, came),
         now.letter("closed", ADA, letter="CLOSED\n"),
+        now.letter("closed", ADA, SUBJECTS["void"], letter="VOID\n"),
         now.letter("result", ADA, letter="RESULT\n", answers=answers, fates=came),
         now.letter("result", ADA, letter="RESULT\n", answers=None, fates=came),
     ]

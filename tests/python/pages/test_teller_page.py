@@ -393,22 +393,23 @@ class Looking(PageTest):
             "another policy": page.replace("form-action 'none'", "form-action *"),
             "no tellers": call_page(call_of(tellers={})).decode(),
             "before all": f"<!-- -->{page}",
+            "as chromium saves a complete page": page.replace(
+                "<html", "<!-- saved from url=(0027)https://club.example/vote/ -->\n<html"
+            ),
             "with a mark of bytes": f"\ufeff{page}",
         }
         for name, text in cases.items():
             with self.subTest(name):
                 self.assertNotEqual(text, page)
                 said = self.page.look(text.encode(), DORA)
-                self.assertIn(
-                    "This is no page of a vote with tellers as this version makes it.", said
-                )
+                self.assertIn("save it once more, as HTML only. If it stays so, tell", said)
                 self.assertEqual(self.page.text("Looked"), "")
         another = "THIS PAGE SEALS TO ANOTHER KEY: tell all members."
         self.assertEqual(self.page.look(call_page(others), DORA), another)
         renamed = call_of(tellers={"carla": POINTS["carla"], "dana": POINTS["dora"]})
         self.assertEqual(self.page.look(call_page(renamed), DORA), another)
         latin = page.encode().replace(b"Where", b"Wh\xffre", 1)
-        self.assertNotEqual(self.page.look(latin, DORA), "")
+        self.assertIn("save it once more, as HTML only", self.page.look(latin, DORA))
 
     def test_each_language_is_short_enough(self):
         for code in LANGUAGES:
