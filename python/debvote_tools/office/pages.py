@@ -37,7 +37,7 @@ PRINT_POLICY = "sandbox; default-src 'none'; style-src 'unsafe-inline'; frame-an
 # what is to be printed, by its place in the folder
 PRINTED = re.compile(
     r"letters/[a-z]+/\d+/to-print\.html|private/slips\.html"
-    r"|preview(?:-\d+)?/(?:index\.html|slip\.html|letter\.txt)"
+    r"|preview(?:-\d+)?/(?:index\.html|slip\.html|letter\.txt|to-print\.html)"
 )
 # in bytes
 LARGEST_FILE = 64 * 1024 * 1024
@@ -199,6 +199,8 @@ def run(visit: Visit, rest: str) -> Answer:
         "question": question,
         "refreshes": not (question or is_over),
     }
+    if shown.words[0] == "check":
+        values["previews"] = views.previews_of(visit.election)
     return Page("run", values)
 
 

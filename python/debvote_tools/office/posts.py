@@ -21,8 +21,8 @@ from debvote_tools.office.visit import (
 )
 from debvote_tools.text.language import LANGUAGES
 
-# the pages to which a command may lead that was done well
-BACK = ("letters", "roll", "draft")
+# the pages to which a command may lead that was done well, by what forms call them
+BACK = {"state": "", "letters": "letters", "roll": "roll", "draft": "draft"}
 # in characters
 LONGEST_NAME = 40
 
@@ -78,11 +78,12 @@ def new(visit: Visit) -> Answer:
 def do(visit: Visit, rest: str) -> Answer:
     if not acts.is_command(rest):
         raise Refused()
-    back = first(visit.form, "back")
     # of several ties each option that was chosen has a name of its own
     chosen = [value[0] for name, value in visit.form.items() if name.startswith("casting")]
     words = acts.form_of(rest).words({**visit.form, "casting": chosen})
-    places = Place(done=back if back in BACK else None)
+    # the page of letters draws the ballots about which `add` asks
+    asks = "letters" if rest == "add" else None
+    places = Place(asks, BACK.get(first(visit.form, "back")))
     return follow(visit, visit.office.runs.command(*words, places=places))
 
 

@@ -59,6 +59,13 @@ class Letters(LettersTest):
         self.assert_lines("ada 2,1,3,4")
         self.assertNotIn('value="enter"', office.page("letters/1"))
 
+    def test_a_bare_ballot_by_another_subject_has_nothing_more_in_it(self):
+        office = offices.Office(self)
+        self.upload(office, letter("ada", "ada 2,1,3,4\n", subject="Hello"))
+        shown = offices.seen(office.post("letters/1", act="enter", force="not-tied"))
+        self.assertIn("Enter 1 ballot?", shown)
+        self.assertNotIn("more in it", shown)
+
     def test_it_is_entered_otherwise_or_set_aside(self):
         office = offices.Office(self)
         self.upload(office, letter("ada", "the lake, then the hall"), letter("ben", "hello"))
