@@ -9,7 +9,7 @@ import time
 from collections.abc import Mapping
 
 from tests.support import boxes
-from tests.support.letters import letter, mailbox
+from tests.support.letters import letter
 from tests.support.outgoing import MailServer
 from tests.support.questions import REFERENCE, Answers, answering, in_words, one_line
 
@@ -112,8 +112,8 @@ class MeetingTest(boxes.BoxElectionTest):
         for name in names:
             self.click(name, self.ballot(name).partition(" ")[2], self.personal[name][1])
 
-    def mailbox_of(self, names: list[str], worded: list[str], ago: int = 0) -> bytes:
-        """A mailbox with letters of these members, some of which have more words, and so wait: what they want is not noted yet."""
+    def letters_of(self, names: list[str], worded: list[str], ago: int = 0) -> list[bytes]:
+        """A letter of each of these members. Some have more words, and so wait: what they want is not noted yet."""
         letters = []
         self.waiting = dict[str, dict[str, str]]()
         for number, name in enumerate(names):
@@ -130,22 +130,22 @@ class MeetingTest(boxes.BoxElectionTest):
                 "subject": f"Re: Abstimmung [{self.mark()}-{self.personal[name][0]}]",
             }
             letters.append(letter(name, text, number=number, **how))
-        return mailbox(*letters)
+        return letters
 
-    def demand_end(self, closing: str, sent: list[bytes]):
-        """The first result has a tie, and the second one a casting vote: both are what members wanted, as letters of the close
+    def demand_end(self, tied: str, last: str, closing: str, sent: list[bytes]):
+        """The first result has a tie, and the last one a casting vote: both are what members wanted, as letters of the close
         and of the result say.
         """
-        self.demand_whole("result-2")
+        self.demand_whole(last)
         for label in self.polls:
             counting = {name: its[label] for name, its in self.wanted.items() if label in its}
-            folder = "result" if label == "G" else "result-2"
+            folder = tied if label == "G" else last
             self.demand_count(folder, label, answering(label, self.entered), counting)
-            digest = hashlib.sha256(self.read(f"result-2/{label}/ballots.txt")).hexdigest()
+            digest = hashlib.sha256(self.read(f"{last}/{label}/ballots.txt")).hexdigest()
             self.assertIn(f"{digest} {label}/ballots.txt", closing)
-        sheet = self.read("result-2/G/sheet.txt").decode()
+        sheet = self.read(f"{last}/G/sheet.txt").decode()
         self.assertTrue(sheet.endswith("Winner: 2 Gruen by casting vote\n"), sheet)
-        self.demand_pages()
+        self.demand_pages(last)
         self.demand_letters(sent)
         self.done("log", "--check")
 
@@ -173,15 +173,15 @@ class MeetingTest(boxes.BoxElectionTest):
         standing = [f"{name} {counting[name]}" for name in sorted(counting)]
         self.assertEqual((place / "standing.txt").read_text().splitlines(), standing)
 
-    def demand_pages(self):
+    def demand_pages(self, folder: str):
         """One page for all questions, which leads to that of each; each names its poll and the list of polls."""
-        page = self.read("result-2/index.html").decode()
+        page = self.read(f"{folder}/index.html").decode()
         places = [page.index(f'href="{label}/index.html"') for label in self.polls]
         self.assertEqual(places, sorted(places))
         self.assertIn(self.checksum, page)
         for label in self.polls:
-            own = self.read(f"result-2/{label}/index.html").decode()
-            poll = hashlib.sha256(self.read(f"result-2/{label}/poll.toml")).hexdigest()
+            own = self.read(f"{folder}/{label}/index.html").decode()
+            poll = hashlib.sha256(self.read(f"{folder}/{label}/poll.toml")).hexdigest()
             self.assertTrue(self.checksum in own and poll in own, label)
 
     def demand_letters(self, sent: list[bytes]):

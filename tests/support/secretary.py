@@ -154,11 +154,13 @@ class Secretary(Page):
         """Chooses one of several, or ticks a box."""
         self.press_on(f"[document.querySelector({json.dumps(field)})?.closest('label')]", field)
 
-    def fill(self, field: str, text: str):
-        """Clicks into a field, and types in place of what it has."""
-        self.press_on(f"[...document.querySelectorAll({json.dumps(field)})]", field)
+    def fill(self, field: str, text: object, place: int = 0):
+        """Clicks into a field, or into a later one of its name, and types in place of what it
+        has.
+        """
+        self.press_on(f"[...document.querySelectorAll({json.dumps(field)})].slice({place})", field)
         self.ask("document.activeElement.select()")
-        self.type(text)
+        self.type(str(text))
 
     def choose(self, field: str, value: object):
         """Chooses in a list by the arrow keys."""

@@ -136,8 +136,9 @@ def desk(visit: Visit, rest: str) -> Answer:
     run = visit.office.runs.desks.get(number)
     if run:
         visit.wait(run)
-    folder = visit.folder
     values = desks.desk_of(visit.election, run)
+    language = visit.election.language
+    names = {one: state.desk_name(visit.folder, one, language) for one in desks.DESKS}
     return Page(
         "desk",
         {
@@ -145,8 +146,8 @@ def desk(visit: Visit, rest: str) -> Answer:
             "run": run,
             "question": run.question if run else None,
             "desk": number,
-            "name": state.desk_name(folder, number),
-            "names": {other: state.desk_name(folder, other) for other in desks.DESKS},
+            "name": names[number],
+            "names": names,
             "is_lost": "lost" in visit.query,
         },
     )

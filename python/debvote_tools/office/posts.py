@@ -140,10 +140,11 @@ def desk(visit: Visit, rest: str) -> Answer:
     number = number_of_desk(rest)
     runs = visit.office.runs
     if "begin" in visit.form:
-        name = first(visit.form, "name").strip()
-        if name and name != state.desk_name(visit.folder, number):
-            state.name_desk(visit.folder, number, name[:LONGEST_NAME])
-        runs.desk(number, state.desk_name(visit.folder, number))
+        name = state.desk_name(visit.folder, number, visit.election.language)
+        if (given := first(visit.form, "name").strip()) not in ("", name):
+            name = given[:LONGEST_NAME]
+            state.name_desk(visit.folder, number, name)
+        runs.desk(number, name)
         return See(f"desk/{number}")
     run = runs.desks.get(number)
     if run is None:

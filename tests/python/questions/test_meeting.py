@@ -5,6 +5,7 @@ import re
 import time
 from collections.abc import Mapping
 
+from tests.support.letters import mailbox
 from tests.support.meetings import (
     MEMBERS,
     MOTIONS,
@@ -123,7 +124,7 @@ class Meeting(MeetingTest):
         self.command("publish", *casting, *because, "result-2")
         sent = self.posted(len(MEMBERS))
         self.assertLessEqual(self.commands, MOST_OPEN)
-        self.demand_end(closing, sent)
+        self.demand_end("result", "result-2", closing, sent)
 
     def called(self):
         self.begin_with(OPEN)
@@ -152,7 +153,8 @@ class Meeting(MeetingTest):
         """Of those who write two write more, and their letters wait."""
         time.sleep(1.1)
         names = MEMBERS[22:34]
-        self.write("post.mbox", self.mailbox_of(names, [names[9], names[11]], ago=20))
+        letters = self.letters_of(names, [names[9], names[11]], ago=20)
+        self.write("post.mbox", mailbox(*letters))
         said = self.command("add", "--yes", "post.mbox")
         self.assertIn("2 letters wait", said)
         numbers = re.findall(r"(?m)^ *(\d+)  \d{4}-", said)
