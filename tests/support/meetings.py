@@ -2,6 +2,7 @@
 
 import email
 import hashlib
+import hmac
 import random
 import re
 import sys
@@ -65,6 +66,14 @@ def text_in(data: bytes) -> str:
     """The text of a letter, on one line."""
     text = email.message_from_bytes(data).get_payload(decode=True)
     return " ".join(text.decode().split())  # type: ignore[union-attr]
+
+
+def normal(ranks: str) -> str:
+    """The same order from 1 on; equal ranks and hyphens stay."""
+    numbers = sorted({int(rank) for rank in ranks.split(",") if rank != "-"})
+    return ",".join(
+        rank if rank == "-" else str(numbers.index(int(rank)) + 1) for rank in ranks.split(",")
+    )
 
 
 class MeetingTest(boxes.BoxElectionTest):
@@ -195,3 +204,34 @@ class MeetingTest(boxes.BoxElectionTest):
                 self.assertIn(f" {ranks.count('1,2')} Ja, {ranks.count('2,1')} Nein.", text)
                 if abstained := ranks.count("1,1"):
                     self.assertIn(f", Enthaltungen: {abstained}.", text)
+
+    def demand_secret(self):
+        """Each secret question has its own aliases, and no page tells a code, or who voted what."""
+        head, *rows = self.read("private/codes.csv").decode().splitlines()
+        self.assertEqual(head, "name,who,mail,code,mark")
+        codes = dict(row.split(",")[::3] for row in rows)
+        self.demand_whole("result")
+        every = set[str]()
+        for label in SECRET:
+            alias = {
+                name: hmac.new(code.encode(), f"{label} {name}".encode(), "sha256").hexdigest()[:32]
+                for name, code in codes.items()
+            }
+            wanted = {
+                alias[name]: normal(answers[label])
+                for name, answers in self.wanted.items()
+                if label in answers
+            }
+            lines = [f"{name} {ranks}" for name, ranks in sorted(wanted.items())]
+            self.assertEqual(self.read(f"result/{label}/ballots.txt").decode().splitlines(), lines)
+            self.demand_count("result", label, lines, wanted)
+            every |= {*alias.values()}
+            page = "".join(
+                self.read(f"result/{place}index.html").decode() for place in ("", f"{label}/")
+            )
+            candidates = {option for _, options, *_ in SECRET.values() for option in options}
+            for name, who in WHO.items():
+                self.assertNotIn(codes[name], page)
+                self.assertNotIn(f"{name} ", page)
+                self.assertTrue(who not in page or who in candidates, who)
+        self.assertEqual(len(every), 2 * len(MEMBERS))

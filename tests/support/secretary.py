@@ -46,6 +46,7 @@ class Page(Window):
 
     def __init__(self, office: offices.Office, *, width=360, height=640, has_script=True):
         super().__init__(width, height)
+        self.office = office
         self.address = office.address
         self.tell("Emulation.setScriptExecutionDisabled", value=not has_script)
 
@@ -145,7 +146,7 @@ class Secretary(Page):
         """What is seen in the window that a link opens."""
         self.count()
         address = self.ask(f"{PLACE}({self.pressed(sentence)})")["href"]
-        with Window(1280, 900) as window:
+        with Page(self.office) as window:
             window.tell("Page.navigate", url=address)
             window.until(f"document.readyState === 'complete' && location.href === '{address}'")
             return str(window.ask("document.body.innerText"))

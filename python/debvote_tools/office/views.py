@@ -1,6 +1,7 @@
 """What the pages show of the whole election: read anew for each, as commands find it."""
 
 import datetime
+import functools
 import pathlib
 import types
 from collections.abc import Mapping, Sequence
@@ -13,7 +14,13 @@ from debvote_tools.commands.check import SLIP
 from debvote_tools.commands.codes import SLIPS
 from debvote_tools.election import LETTERS, PRIVATE, Election, History
 from debvote_tools.outbox.letter_folder import TO_PRINT
-from debvote_tools.outbox.steps import next_place, published_place, remembered, what_next
+from debvote_tools.outbox.steps import (
+    file_of,
+    next_place,
+    published_place,
+    remembered,
+    what_next,
+)
 from debvote_tools.poll.plain_names import alike
 from debvote_tools.poll.questions import Questions, place_of
 from debvote_tools.result.facts import PublishedWords
@@ -57,6 +64,7 @@ def state_of(election: Election) -> Values:
         "previews": previews_of(election),
         "next_preview": next_preview(election.path(PREVIEW)),
         "has_server": remembered(history) is not None,
+        "file_of": functools.partial(file_of, election, history),
         "next_folder": "".join(next_place(election)),
     }
 
