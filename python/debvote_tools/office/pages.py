@@ -61,7 +61,7 @@ def folders(visit: Visit) -> Answer:
     values = {
         "folders": state.folders(),
         "given": first(visit.query, "folder"),
-        "done": visit.run_in("done"),
+        "done": visit.done,
         "fault": visit.office.fault,
         "codes": LANGUAGES,
     }
@@ -78,7 +78,7 @@ def overview(visit: Visit) -> Answer:
             "own": own_programs.programs_in(visit.election),
             "big": visit.office.address(BIG),
             "result_page": visit.office.address(RESULT),
-            "done": visit.run_in("done"),
+            "done": visit.done,
         },
     )
 
@@ -102,7 +102,7 @@ def kind_of(name: str) -> str:
 
 # ---- letters
 def letters_page(visit: Visit, rest: str) -> Answer:
-    asking = visit.run_in("run")
+    asking = visit.asking
     here = f"letters/{rest}" if rest else "letters"
     # what it asks stands on its own page alone
     if asking and asking.place != f"{here}?run={asking.number}":
@@ -112,7 +112,7 @@ def letters_page(visit: Visit, rest: str) -> Answer:
         page = page_in(visit)
         values = letters.letters_of(visit.election, visit.language, page)
         own = own_programs.programs_in(visit.election)
-        done = visit.run_in("done")
+        done = visit.done
         told = lines_of(done.said) if done else []
         return Page("letters", {**values, **shown, "own": own, "done": done, "told_lines": told})
     letter = (
@@ -165,7 +165,7 @@ def roll(visit: Visit) -> Answer:
 
 
 def draft(visit: Visit) -> Answer:
-    more: Values = {"changed": [], "done": visit.run_in("done")}
+    more: Values = {"changed": [], "done": visit.done}
     return Page("draft", {**drafts.draft_of(visit.election), **more})
 
 
