@@ -36,6 +36,7 @@ LONGEST = [
 MARKS = (
     "checked: it runs the program on each kind of input, in make test one with the checks of rt try",
     "proved: it needs the proved program, or the prover; make test leaves it out",
+    "whole: a whole election in chromium; make test leaves it out",
 )
 
 

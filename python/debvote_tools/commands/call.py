@@ -95,7 +95,7 @@ class Arguments(Acting):
     )
     slips: str | None = option(
         None,
-        "In a secret vote with a web box: whether slips with codes will be handed out, as the page says (default: ask at the terminal)",
+        "In a secret vote with a web box: whether slips with codes will be handed out, as the page says (default: the command asks)",
         choices=("yes", "no"),
     )
     keyring: str | None = option(

@@ -7,7 +7,7 @@ import os
 import pathlib
 import re
 from collections.abc import Iterator, Mapping, Sequence
-from typing import NamedTuple
+from typing import TYPE_CHECKING, NamedTuple
 
 from debvote_tools.book import queries
 from debvote_tools.book.book import Book
@@ -53,8 +53,14 @@ from debvote_tools.sheet import sheet_in
 from debvote_tools.text.language import Language
 from debvote_tools.text.motions import with_ranks
 
+if TYPE_CHECKING:
+    # what makes pages takes a while to be imported
+    from debvote_tools.call.call import CallData
+
 # what debvote says of a key that no poll has
 NOT_READ = "is not read"
+# of a preview of a secret vote
+SLIP = "slip.html"
 # how many electors a note names
 MAX_NAMED = 200
 # a real name that ends in a letter, or is one, which may be read as a label
@@ -186,13 +192,9 @@ def faults_by_debvote(election: Election, file: pathlib.Path, poll_bytes: bytes)
 
 # ---- what a call would send
 def preview(election: Election, draft: Checked, folder: pathlib.Path) -> None:
-    """Makes what the call would send of a draft, without own marks, links and end; the letter is
-    that to the first elector.
-    """
-    # what makes pages takes a while to be imported
+    """Makes what the call would send of a draft, without own marks, links and end."""
     from debvote_tools.call.call import call_files, current_call
     from debvote_tools.call.secret import blank_slips, slips
-    from debvote_tools.outbox.words import Composer
 
     demand_new(election, folder, "folder")
     electors = queries.electors(election.book)
@@ -203,11 +205,10 @@ def preview(election: Election, draft: Checked, folder: pathlib.Path) -> None:
     box_key = bytes(32) if tellers else b""
     call = dataclasses.replace(call, letter_text=draft.letter_text, box_key=box_key)
     files = call_files(call)
-    for elector in () if call.has_codes_on_roll else electors[:1]:
-        text = Composer(call, is_over=False).call_letter(elector, is_extension=False).text
-        files["letter.txt"] = text.encode()
+    if not call.has_codes_on_roll:
+        files |= letters_of(call, electors)
     if draft.questions.is_secret and not draft.lacks_codes:
-        files["slip.html"] = blank_slips(call, 1) if tellers else slips(call, electors[:1])
+        files[SLIP] = blank_slips(call, 1) if tellers else slips(call, electors[:1])
     write_made(folder, files, OWN)
     tell(f"Made the folder {folder}, to be looked at: it is no call.")
 
@@ -223,6 +224,21 @@ def previewed(election: Election, draft: Checked, has_tellers: bool) -> Sealed:
     if questions.is_secret and has_codes:
         return Sealed(aliased(questions, queries.electors(election.book)), questions)
     return Sealed(questions, questions)
+
+
+def letters_of(call: "CallData", electors: Sequence[queries.Elector]) -> dict[str, bytes]:
+    """The letter to the first elector, and that on paper to the first one without an address."""
+    from debvote_tools.outbox.letter_folder import TO_PRINT, page_to_print
+    from debvote_tools.outbox.words import Composer, is_on_paper
+
+    composer = Composer(call, is_over=False)
+    files = dict[str, bytes]()
+    for elector in electors[:1]:
+        files["letter.txt"] = composer.call_letter(elector, is_extension=False).text.encode()
+    for elector in [*filter(is_on_paper, electors)][:1]:
+        text = composer.call_letter(elector, is_extension=False).text
+        files[TO_PRINT] = page_to_print(call, [(elector, text)])
+    return files
 
 
 # ---- what letters quote

@@ -314,7 +314,7 @@ def entry_of(
         )
     numbers = [one.letter.number for one in chosen]
     ballots = [(one.letter, line) for one in chosen for line in one.lines]
-    more = "" if all(one.letter.is_nothing_else for one in chosen) else MORE
+    more = "" if all(one.letter.is_bare_ballot for one in chosen) else MORE
     return LetterEntry(
         "enter",
         {"letters": numbers, "lines": [line.number for _, line in ballots if line.number]},

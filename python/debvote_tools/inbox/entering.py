@@ -25,7 +25,7 @@ class Arguments(Acting):
     nothing = "added"
     came_before_close: str | None = option(
         None,
-        "After reopen: whether the ballots came before the first close (default: ask at the terminal)",
+        "After reopen: whether the ballots came before the first close (default: the command asks)",
         choices=("yes", "no"),
     )
 

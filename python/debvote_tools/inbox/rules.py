@@ -307,13 +307,18 @@ class LetterCase:
 
     @property
     def is_nothing_else(self) -> bool:
-        """Whether a ballot as lines have it is all that it says: in one plain text that no program
-        may show otherwise, by a subject of ours, with no file.
+        """Whether a ballot is all that it says, by a subject of ours."""
+        return self.is_bare_ballot and why_not_of_this_vote(self) is None
+
+    @property
+    def is_bare_ballot(self) -> bool:
+        """Whether it has a ballot as lines have it, and nothing else: in one plain text that no
+        program may show otherwise, with no file.
         """
         read = self.read
         has_more = read.text.words or read.text.is_proposed or read.attachments
         is_plain = read.is_plain and read.body.trouble is None and len(self.to_enter) == 1
-        if has_more or not is_plain or why_not_of_this_vote(self) is not None:
+        if has_more or not is_plain:
             return False
         return not self.may_be_quoted(self.to_enter[0])
 

@@ -21,7 +21,7 @@ from debvote_tools.poll.questions import POLL_FILE, TITLE_FILE
 from debvote_tools.text.motions import WORDS
 
 # how many empty rows there are for more options
-MORE = 3
+MORE = 5
 # who may know how somebody has voted: the secretary, or nobody
 SECRET = "1"
 BY_TELLERS = "2"

@@ -38,7 +38,7 @@ PRINT_POLICY = "sandbox; default-src 'none'; style-src 'unsafe-inline'; frame-an
 PRINTED = re.compile(
     r"letters/[a-z]+/\d+/to-print\.html|private/slips\.html"
     r"|private/paper\.txt|urn/(?:voted|list-\d)\.txt"
-    r"|preview(?:-\d+)?/(?:index\.html|slip\.html|letter\.txt)"
+    r"|preview(?:-\d+)?/(?:index\.html|slip\.html|letter\.txt|to-print\.html)"
 )
 # in bytes
 LARGEST_FILE = 64 * 1024 * 1024
@@ -62,7 +62,7 @@ def folders(visit: Visit) -> Answer:
     values = {
         "folders": state.folders(),
         "given": first(visit.query, "folder"),
-        "done": visit.run_in("done"),
+        "done": visit.done,
         "fault": visit.office.fault,
         "codes": LANGUAGES,
     }
@@ -79,7 +79,7 @@ def overview(visit: Visit) -> Answer:
             "own": own_programs.programs_in(visit.election),
             "big": visit.office.address(BIG),
             "result_page": visit.office.address(RESULT),
-            "done": visit.run_in("done"),
+            "done": visit.done,
         },
     )
 
@@ -103,7 +103,7 @@ def kind_of(name: str) -> str:
 
 # ---- letters
 def letters_page(visit: Visit, rest: str) -> Answer:
-    asking = visit.run_in("run")
+    asking = visit.asking
     here = f"letters/{rest}" if rest else "letters"
     # what it asks stands on its own page alone
     if asking and asking.place != f"{here}?run={asking.number}":
@@ -113,7 +113,7 @@ def letters_page(visit: Visit, rest: str) -> Answer:
         page = page_in(visit)
         values = letters.letters_of(visit.election, visit.language, page)
         own = own_programs.programs_in(visit.election)
-        done = visit.run_in("done")
+        done = visit.done
         told = lines_of(done.said) if done else []
         return Page("letters", {**values, **shown, "own": own, "done": done, "told_lines": told})
     letter = (
@@ -137,8 +137,9 @@ def desk(visit: Visit, rest: str) -> Answer:
     run = visit.office.runs.desks.get(number)
     if run:
         visit.wait(run)
-    folder = visit.folder
     values = desks.desk_of(visit.election, run)
+    language = visit.election.language
+    names = {one: state.desk_name(visit.folder, one, language) for one in desks.DESKS}
     return Page(
         "desk",
         {
@@ -146,8 +147,8 @@ def desk(visit: Visit, rest: str) -> Answer:
             "run": run,
             "question": run.question if run else None,
             "desk": number,
-            "name": state.desk_name(folder, number),
-            "names": {other: state.desk_name(folder, other) for other in desks.DESKS},
+            "name": names[number],
+            "names": names,
             "is_lost": "lost" in visit.query,
         },
     )
@@ -165,7 +166,7 @@ def roll(visit: Visit) -> Answer:
 
 
 def draft(visit: Visit) -> Answer:
-    more: Values = {"changed": [], "done": visit.run_in("done")}
+    more: Values = {"changed": [], "done": visit.done}
     return Page("draft", {**drafts.draft_of(visit.election), **more})
 
 
@@ -179,7 +180,7 @@ def do(visit: Visit, rest: str) -> Answer:
     if not acts.is_command(rest):
         raise Refused()
     command = acts.form_of(rest)
-    again = visit.run_in("again")
+    again = visit.run(first(visit.query, "again"))
     values = {
         "command": command,
         "given": again.task.given if again else visit.query,
@@ -208,6 +209,8 @@ def run(visit: Visit, rest: str) -> Answer:
         "question": question,
         "refreshes": not (question or is_over),
     }
+    if shown.words[0] == "check":
+        values["previews"] = views.previews_of(visit.election)
     return Page("run", values)
 
 

@@ -24,8 +24,8 @@ from debvote_tools.office.visit import (
 )
 from debvote_tools.text.language import LANGUAGES
 
-# the pages to which a command may lead that was done well
-BACK = ("letters", "roll", "draft")
+# the pages to which a command may lead that was done well, by what forms call them
+BACK = {"state": "", "letters": "letters", "roll": "roll", "draft": "draft"}
 # in characters
 LONGEST_NAME = 40
 
@@ -82,13 +82,13 @@ def do(visit: Visit, rest: str) -> Answer:
     if not acts.is_command(rest):
         raise Refused()
     command = acts.form_of(rest)
-    back = first(visit.form, "back")
     # of several ties each option that was chosen has a name of its own
     chosen = [value[0] for name, value in visit.form.items() if name.startswith("casting")]
     files = {field.name: files_of(visit, field.name) for field in command.pasted}
     task = Task(
         command.words({**visit.form, "casting": chosen, **files}),
-        Place(done=back if back in BACK else None),
+        # the page of letters draws the ballots about which `add` asks
+        Place("letters" if rest == "add" else None, BACK.get(first(visit.form, "back"))),
         uploads=uploaded(visit, *itertools.chain(*files.values())),
         given=visit.form if files else {},
     )
@@ -160,10 +160,11 @@ def desk(visit: Visit, rest: str) -> Answer:
     number = number_of_desk(rest)
     runs = visit.office.runs
     if "begin" in visit.form:
-        name = first(visit.form, "name").strip()
-        if name and name != state.desk_name(visit.folder, number):
-            state.name_desk(visit.folder, number, name[:LONGEST_NAME])
-        runs.desk(number, state.desk_name(visit.folder, number))
+        name = state.desk_name(visit.folder, number, visit.election.language)
+        if (given := first(visit.form, "name").strip()) not in ("", name):
+            name = given[:LONGEST_NAME]
+            state.name_desk(visit.folder, number, name)
+        runs.desk(number, name)
         return See(f"desk/{number}")
     run = runs.desks.get(number)
     if run is None:

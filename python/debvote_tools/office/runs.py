@@ -37,6 +37,8 @@ QUESTION = re.compile(f"{ASKS}([a-z]+){IS_ASKED}([^{ASKED}]*){ASKED}")
 # what a command writes behind a question that takes yes or no, for which the page has buttons
 YES_OR_NO = " [y/n] "
 NEXT = "Next: "
+# the answers that are no, by the kind of their question
+DECLINED = {"yes": "n", "refused": ""}
 # how a command writes what became of a line (docs/FORMATS.md)
 REPLY = re.compile(r"(\d+) (\S.*?)  ([^:]+)(?:: .*)?")
 
@@ -100,6 +102,8 @@ class Run:
         self.before = before
         self.go_on = go_on
         self.status: int | None = None
+        # whether the last answer was no
+        self.is_declined = False
         # what it wrote since the last answer: what was decided is not kept
         self.said = ""
         self.question: Question | None = None
@@ -162,6 +166,11 @@ class Run:
         return self.task.words
 
     @property
+    def is_done(self) -> bool:
+        """Whether it has ended well; that of a tie is a status of its own."""
+        return self.status == 0 or (self.status == 1 and self.words[0] in ("count", "publish"))
+
+    @property
     def place(self) -> str:
         """The page that shows it at this moment, or what has followed it."""
         asks, done = self.task.places
@@ -169,7 +178,7 @@ class Run:
             return self.next.place
         if asks is not None and self.question:
             return f"{asks}?run={self.number}"
-        if done is not None and self.status == 0:
+        if done is not None and self.is_done:
             return f"{done}?done={self.number}"
         return f"run/{self.number}"
 
@@ -190,6 +199,7 @@ class Run:
                 return False
             self.question = None
             self.said = ""
+            self.is_declined = question.kind in DECLINED and text == DECLINED[question.kind]
             if question.kind == "ballot":
                 self.ballot = text
             return self.put(text)
@@ -215,9 +225,10 @@ class Run:
 
 def lines_of(text: str) -> list[str]:
     """The lines of what a command wrote, but for what it says of the next command, for which the
-    page has a button; of one that it wrote over, the last.
+    page has a button; of progress, which it writes over, the last until it ends.
     """
-    rows = (row.rpartition("\r")[2] for row in text.split("\n"))
+    *ended, last = text.split("\n")
+    rows = [*(row for row in ended if "\r" not in row), last.rpartition("\r")[2]]
     return [row for row in rows if row and not row.startswith(NEXT)]
 
 

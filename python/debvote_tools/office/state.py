@@ -13,6 +13,7 @@ from typing import IO, Any
 from debvote_tools.book.machine_note import MACHINE_ID, state_folder
 from debvote_tools.cli.faults import Fault, Status
 from debvote_tools.files import locked, sha256_of, write_whole
+from debvote_tools.text.language import Language
 
 # of the folders that were open the last ones are named
 MOST_FOLDERS = 20
@@ -63,10 +64,10 @@ def remember_folder(folder: pathlib.Path) -> None:
         state["folders"] = [str(folder), *others][:MOST_FOLDERS]
 
 
-def desk_name(folder: pathlib.Path, number: int) -> str:
-    """The name of a desk, as somebody has changed it."""
+def desk_name(folder: pathlib.Path, number: int, language: Language) -> str:
+    """The name of a desk, as somebody has changed it, or as receipts in this language tell it."""
     names = kept().get("desks", {}).get(str(folder), {})
-    return str(names.get(str(number), f"Desk {number}"))
+    return str(names.get(str(number)) or language.say("Desk {number}", number=number))
 
 
 def name_desk(folder: pathlib.Path, number: int, name: str) -> None:

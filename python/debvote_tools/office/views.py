@@ -1,6 +1,7 @@
 """What the pages show of the whole election: read anew for each, as commands find it."""
 
 import datetime
+import functools
 import pathlib
 import types
 from collections.abc import Mapping, Sequence
@@ -10,17 +11,24 @@ from debvote_tools.book import queries
 from debvote_tools.call.tellers import SLIPS_TYPED
 from debvote_tools.cli.console import shown_text
 from debvote_tools.commands import status
+from debvote_tools.commands.check import SLIP
 from debvote_tools.commands.codes import SLIPS
 from debvote_tools.election import LETTERS, PRIVATE, URN, Election, History
 from debvote_tools.inbox.urn import words_before_close
 from debvote_tools.outbox.letter_folder import TO_PRINT
-from debvote_tools.outbox.steps import next_place, published_place, what_next
+from debvote_tools.outbox.steps import (
+    file_of,
+    next_place,
+    published_place,
+    remembered,
+    what_next,
+)
 from debvote_tools.poll.plain_names import alike
 from debvote_tools.poll.questions import Questions, place_of
 from debvote_tools.result.facts import PublishedWords
 from debvote_tools.result.file_names import CHECKSUMS, SHEET
 from debvote_tools.result.page import named_in_html
-from debvote_tools.result.places import other_place
+from debvote_tools.result.places import is_free, other_place
 from debvote_tools.result.why import Why
 from debvote_tools.sheet import sheet_in
 from debvote_tools.text import times
@@ -29,7 +37,7 @@ Values = dict[str, Any]
 
 # a folder with what a call would send, and what of it is looked at
 PREVIEW = "preview"
-PREVIEWED = ("index.html", "letter.txt")
+PREVIEWED = ("index.html", "letter.txt", TO_PRINT, SLIP)
 # how many electors or letters are on a page
 ROWS = 100
 
@@ -56,7 +64,10 @@ def state_of(election: Election) -> Values:
         "dues": dues,
         "notes": list(words_before_close(election, history)),
         "prints": prints_of(election),
-        **previews_of(election),
+        "previews": previews_of(election),
+        "next_preview": next_preview(election.path(PREVIEW)),
+        "has_server": remembered(history) is not None,
+        "file_of": functools.partial(file_of, election, history),
         "next_folder": "".join(next_place(election)),
     }
 
@@ -136,13 +147,20 @@ def prints_of(election: Election) -> list[str]:
     return [str(file.relative_to(election.folder)) for file in files if file.is_file()]
 
 
-def previews_of(election: Election) -> Values:
-    """What the last preview has made, before the call, and where the next one may be."""
+def previews_of(election: Election) -> dict[str, str]:
+    """What the last preview has made, by its names: where it is in the folder."""
     folders = sorted(election.folder.glob(f"{PREVIEW}*"), key=lambda one: one.stat().st_mtime)
     return {
-        "previews": [f"{folder.name}/{file}" for folder in folders[-1:] for file in PREVIEWED],
-        "next_preview": other_place(election.path(PREVIEW)).name if folders else PREVIEW,
+        name: f"{folder.name}/{name}"
+        for folder in folders[-1:]
+        for name in PREVIEWED
+        if (folder / name).is_file()
     }
+
+
+def next_preview(place: pathlib.Path) -> str:
+    """The name of a folder for a preview, in which there is none."""
+    return place.name if is_free(place) else other_place(place).name
 
 
 # ---- the roll

@@ -105,9 +105,16 @@ class Visit:
             raise Refused()
         return run
 
-    def run_in(self, key: str) -> Run | None:
-        """The command that the address of the page names, if it is there."""
-        return self.run(first(self.query, key))
+    @property
+    def asking(self) -> Run | None:
+        """The command that the address of the page names to show what it asks, if it is there."""
+        return self.run(first(self.query, "run"))
+
+    @property
+    def done(self) -> Run | None:
+        """The command that has led to the page, once it was done well."""
+        run = self.run(first(self.query, "done"))
+        return run if run and run.place.endswith(f"?done={run.number}") else None
 
 
 def is_number(text: str) -> bool:

@@ -20,6 +20,8 @@ from collections.abc import Iterator, Mapping, Sequence
 from markupsafe import Markup
 
 from debvote_tools.book.outgoing import OutgoingLetter
+from debvote_tools.book.queries import Elector
+from debvote_tools.call.call import CallData
 from debvote_tools.files import naming, remove_left_in, sync_folder, temporary_folder
 from debvote_tools.outbox.due import LettersDue
 from debvote_tools.outbox.words import PACKAGE
@@ -105,9 +107,7 @@ def letter_files(due: LettersDue, letters: Sequence[OutgoingLetter]) -> dict[str
     for letter in letters:
         elector = due.electors[letter.elector]
         if not letter.address:
-            rows = rows_to_print(due.text_of(letter).text)
-            link = due.composer.call_data.link_of(elector)
-            printed.append((one_line(elector.who) or elector.name, rows, link))
+            printed.append((elector, due.text_of(letter).text))
         elif not due.is_sending and due.can_be_sent(letter):
             # no name on a roll has the sign _
             name = (
@@ -117,19 +117,31 @@ def letter_files(due: LettersDue, letters: Sequence[OutgoingLetter]) -> dict[str
     if printed:
         call = due.composer.call_data
         sender = ", ".join(filter(None, (due.sender_name, call.to or due.sender)))
-        files[TO_PRINT] = render_page(
-            PACKAGE,
-            "print.html",
-            call.language,
-            style=resources(PACKAGE, "letter.css"),
-            title=call.questions.name,
-            is_secret=call.questions.is_secret,
-            letters=printed,
-            picture_of=picture_of,
-            # these begin with the secretary's own words
-            sender="" if due.kind in ("call", "reminders") else sender,
-        )
+        # these begin with the secretary's own words
+        is_own = due.kind in ("call", "reminders")
+        files[TO_PRINT] = page_to_print(call, printed, "" if is_own else sender)
     return files
+
+
+def page_to_print(
+    call: CallData, letters: Sequence[tuple[Elector, str]], sender: str = ""
+) -> bytes:
+    """Letters to electors, who have no address, with their texts."""
+    rows = [
+        (one_line(elector.who) or elector.name, rows_to_print(text), call.link_of(elector))
+        for elector, text in letters
+    ]
+    return render_page(
+        PACKAGE,
+        "print.html",
+        call.language,
+        style=resources(PACKAGE, "letter.css"),
+        title=call.questions.name,
+        is_secret=call.questions.is_secret,
+        letters=rows,
+        picture_of=picture_of,
+        sender=sender,
+    )
 
 
 def picture_of(link: str) -> Markup:

@@ -1,17 +1,16 @@
 """The office in chromium: by keys alone, without script, on a telephone, in the dark."""
 
-import contextlib
-import json
-import time
+import itertools
+
+from debvote_tools.text.language import LANGUAGES
 
 from tests.support import offices
-from tests.support.at_browser import NEEDS_BROWSER, Gone, Window
+from tests.support.at_browser import NEEDS_BROWSER
 from tests.support.called import LettersTest
+from tests.support.elections import ElectionTest
 from tests.support.letters import ballot, letter, mailbox
 from tests.support.questions import FEE, QuestionsTest
-
-# what has not come by then does not come
-SECONDS = 30
+from tests.support.secretary import Page
 
 # the least contrast of a text with what is behind it, of all texts that are seen
 CONTRAST = """(() => {
@@ -35,47 +34,16 @@ CONTRAST = """(() => {
 })()"""
 
 
-class Page(Window):
-    """A window that shows pages of an office."""
-
-    def __init__(self, office: offices.Office, *, width=360, height=640, has_script=True):
-        super().__init__(width, height)
-        self.address = office.address
-        self.tell("Emulation.setScriptExecutionDisabled", value=not has_script)
-
-    def until(self, script: str):
-        """Waits until a script returns true; no promise is kept in a page without script."""
-        end = time.monotonic() + SECONDS
-        while True:
-            with contextlib.suppress(Gone, RuntimeError):
-                if self.ask(f"Boolean({script})"):
-                    return
-            if time.monotonic() > end:
-                raise AssertionError(f"it does not become true: {script}")
-            time.sleep(0.02)
-
-    def go(self, place: str):
-        self.tell("Page.navigate", url=self.address + place)
-        self.until(f"location.href.startsWith({json.dumps(self.address + place)})")
-        self.arrived()
-
-    def arrived(self):
-        self.until(
-            "document.readyState === 'complete' && !document.querySelector('meta[http-equiv=refresh]')"
-        )
-
-    def enter(self, key: str = "Enter"):
-        """Presses a key that leads to another page."""
-        self.ask("document.body.dataset.left = 1")
-        self.press(key)
-        self.until("document.body && !document.body.dataset.left")
-        self.arrived()
-
-    def seen(self) -> str:
-        return str(self.ask("document.querySelector('main').innerText.replace(/\\s+/g, ' ')"))
-
-    def focus(self) -> str:
-        return str(self.ask("document.activeElement.name || document.activeElement.textContent"))
+# the choices in lists that are wider than these
+CUT = """[...document.querySelectorAll("select")].flatMap((select) => [...select.options].filter((option) => {
+  const whole = select.cloneNode();
+  whole.append(option.cloneNode(true));
+  whole.style = "position: absolute; flex: none; max-width: none";
+  select.parentNode.append(whole);
+  const width = whole.offsetWidth;
+  whole.remove();
+  return width > select.offsetWidth;
+}).map((option) => option.textContent))"""
 
 
 @NEEDS_BROWSER
@@ -156,6 +124,20 @@ class ByKeys(LettersTest):
                     ratio, text = page.ask(CONTRAST)
                     self.assertGreaterEqual(ratio, 4.5, (place, is_dark, text))
             self.assertEqual(page.faults, [])
+
+
+@NEEDS_BROWSER
+class Draft(ElectionTest):
+    call_words = None
+
+    def test_majorities_are_seen_whole(self):
+        office = offices.Office(self)
+        with Page(office) as page:
+            for code, width in itertools.product(LANGUAGES, (390, 1280)):
+                office.post(f"language/{code}")
+                page.go("draft")
+                page.resize(width, 900)
+                self.assertEqual(page.ask(CUT), [], (code, width))
 
 
 @NEEDS_BROWSER

@@ -7,6 +7,9 @@ from tests.support.called import LettersTest
 from tests.support.elections import POLL
 from tests.support.letters import ballot, letter, mailbox
 
+# the pages of which none has an address of its own
+PLACES = ("", "letters", "desk/2", "roll", "all", "do/show", "draft")
+
 MARKUP = "<script>alert(1)</script><form action=x><b>&amp;"
 
 
@@ -58,6 +61,13 @@ class Letters(LettersTest):
         office.yes(office.post("letters/1", act="enter"))
         self.assert_lines("ada 2,1,3,4")
         self.assertNotIn('value="enter"', office.page("letters/1"))
+
+    def test_a_bare_ballot_by_another_subject_has_nothing_more_in_it(self):
+        office = offices.Office(self)
+        self.upload(office, letter("ada", "ada 2,1,3,4\n", subject="Hello"))
+        shown = offices.seen(office.post("letters/1", act="enter", force="not-tied"))
+        self.assertIn("Enter 1 ballot?", shown)
+        self.assertNotIn("more in it", shown)
 
     def test_it_is_entered_otherwise_or_set_aside(self):
         office = offices.Office(self)
@@ -141,3 +151,46 @@ class Secret(LettersTest):
         office.yes(office.post("letters/2", act="enter"))
         self.assertNotIn("town hall", office.page("letters/2"))
         self.assertEqual(len(self.lines()), 2)
+
+    def test_no_other_page_has_ranks_beside_a_name(self):
+        """All pages are looked at after each step, also by addresses to which nothing leads."""
+        office = offices.Office(self)
+        data = mailbox(ballot("ada", "4,1,3,2"), letter("ben", "Hello\n\nben 3,4,2,1\nor not\n"))
+        text = office.upload("letters", "mail.mbox", self.of_this_vote(data))
+        self.demand_unsaid(office, "letters/1", "letters/2")
+        office.yes(text)
+        self.demand_unsaid(office, "letters/2")
+        text = office.post("letters/2", act="enter")
+        self.demand_unsaid(office, "letters/2")
+        office.yes(text)
+        self.demand_unsaid(office)
+        # one that counts, one in place of another, and one that does not count
+        for name, ranks, answer in (
+            ("cleo", "2,4,1,3", "y"),
+            ("ada", "2,4,1,3", "y"),
+            ("dan", "4,77", "enter"),
+        ):
+            text = office.type(name, ranks)
+            self.assertNotIn("4,1,3,2", text)
+            self.demand_unsaid(office, "desk/1")
+            office.yes(text, answer)
+            self.demand_unsaid(office)
+        text = office.yes(office.post("do/show", name="ada"))
+        self.assertIn("The current ballot: Sell the house and meet there, then", text)
+        for command in ("log", "status", "held", "close", "count", "publish", "log"):
+            self.demand_unsaid(office)
+            office.agree(f"do/{command}")
+        self.assertIn(("publish",), self.rows("SELECT name FROM act"))
+        self.demand_unsaid(office)
+
+    def demand_unsaid(self, office, *decided):
+        """No page has ranks, but for those where they are decided."""
+        runs = [
+            f"{place}{number}"
+            for number in range(1, 20)
+            for place in ("run/", "?done=", "letters?done=")
+        ]
+        for place in {*PLACES, "desk/1", "letters/1", "letters/2", *runs} - {*decided}:
+            page = office.ask("GET", office.base + place)[2].decode()
+            said = re.findall("4,1,3,2|3,4,2,1|2,4,1,3|4,77|then [AISF]|class=.read", page)
+            self.assertEqual(said, [], (place, page))

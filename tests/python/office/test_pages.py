@@ -195,7 +195,7 @@ class Drafts(ElectionTest):
             "default": "Nichts",
             "quorum": "0",
             "secret": "0",
-            "members": "who\tmail\r\nAda\tada@club.example\r\nBen\tben@club.example\r\n",
+            "members": "who\tmail\r\nAda\tada@club.example\r\nBen\t\r\n",
             "letter": "Hello\r\n",
         }
         text = office.post("draft", **fields)
@@ -205,12 +205,16 @@ class Drafts(ElectionTest):
         self.assertEqual(self.election("check").status, 0)
         # what the call would send is looked at before it, each time anew
         for folder in ("preview", "preview-2"):
-            self.assertIn(f'do/check?preview={folder}"', office.page())
+            self.assertIn(f'name="preview" value="{folder}"', office.page())
             text = office.post("do/check", preview=folder)
             self.assertIn(f"Made the folder {folder}", offices.seen(text))
-            self.assertIn(f"print/{folder}/letter.txt", office.page())
-            self.assertIn("Hello", office.page(f"print/{folder}/letter.txt"))
-            self.assertIn("Kaufen", office.page(f"print/{folder}/index.html"))
+            for page in (text, office.page()):
+                opened = re.findall(rf'href="{office.base}(print/{folder}/[^"]*)"', page)
+                shown = {place.rpartition("/")[2]: office.page(place) for place in opened}
+                parts = {"index.html": "Kaufen", "letter.txt": "Hello", "to-print.html": "Ben"}
+                self.assertEqual(shown.keys(), parts.keys())
+                for name, part in parts.items():
+                    self.assertIn(part, shown[name])
             # a script of it would read the secret in its own address
             found = office.ask("GET", f"{office.base}print/{folder}/index.html")
             self.assertTrue(found[1]["Content-Security-Policy"].startswith("sandbox; default"))

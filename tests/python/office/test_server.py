@@ -123,7 +123,10 @@ class Values(ElectionTest):
         text = office.post("do/close", yes="1", moved="1")
         self.assertIn("Is that all?", offices.seen(text))
         self.assertIn("wait", offices.seen(office.page()))
-        office.yes(text, "n")
+        text = office.yes(text, "n")
+        # a no is no fault
+        self.assertIn("<h1>It was not done</h1>", text)
+        self.assertNotIn("said fault", text)
         self.assertNotIn(("close",), self.rows("SELECT name FROM act"))
         office.yes(office.post("do/close"))
         self.assertIn(("close",), self.rows("SELECT name FROM act"))
