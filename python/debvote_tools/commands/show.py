@@ -10,6 +10,7 @@ from debvote_tools.cli.console import (
     asked_for,
     demand_yes,
     hides,
+    say,
     shown_line,
     shown_text,
     tell,
@@ -34,7 +35,8 @@ def show(election: Election, arguments: Arguments) -> None:
     vote = Vote(election)
     elector = elector_named(election, vote, arguments.name)
     if hides() and not arguments.yes:
-        demand_yes(f"Show what {elector.name} voted?", f"this shows what {elector.name} voted")
+        why = f"this shows what {elector.name} voted"
+        demand_yes(say("Show what {name} voted?", elector.name), why)
     history = election.history()
     with asked_for(True):
         who = f": {shown_text(elector.who)} {', '.join(map(shown_text, elector.addresses))}"
@@ -44,10 +46,10 @@ def show(election: Election, arguments: Arguments) -> None:
         came = [fate.envelope for fate in fates if fate.envelope]
         tell(*(f"  {line}" for fate in fates for line in fate_words(vote, history, fate, came)))
         current = queries.what_counts(election.book, {elector.number}).get(elector.name)
-        words = "The current ballot"
+        words = say("The current ballot")
         if current and vote.is_several:
             words += f": {elector.name} {current}"
-        tell(vote.with_answers(words, current) if current else f"{words}: none")
+        tell(vote.with_answers(words, current) if current else f"{words}: {say('none')}")
         for letter in sorted(
             outgoing.outgoing_letters(election.book, elector=elector.number),
             key=lambda letter: letter.time,

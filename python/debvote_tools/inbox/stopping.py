@@ -14,7 +14,7 @@ from typing import TYPE_CHECKING
 from debvote_tools.book import queries
 from debvote_tools.book.book import Book, DoneAct
 from debvote_tools.book.queries import KeptLetter
-from debvote_tools.cli.console import in_runs
+from debvote_tools.cli.console import in_runs, say
 from debvote_tools.cli.faults import Fault
 from debvote_tools.election import Election, History
 from debvote_tools.inbox.asked import CLOSES, unasked_fault, with_lost_records
@@ -148,11 +148,10 @@ def left_by(acts: Iterable[DoneAct]) -> set[int]:
 def taken_out_words(election: Election, history: History) -> str:
     """How many lines count no more that were told as entered, by whatever command they went."""
     lost = [envelope.number for envelope in queries.lost(election.book)]
-    which = f" (envelopes {in_runs(lost)})" if lost and not election.questions.is_secret else ""
+    numbers = in_runs(lost) if lost and not election.questions.is_secret else ""
+    which = numbers and f" ({say('envelopes {numbers}', numbers)})"
     strikes = len(history.since_call("strike"))
-    return (
-        f"Strikes: {strikes}. Taken back, and not entered again as they were: {len(lost)}{which}."
-    )
+    return f"{say('Strikes')}: {strikes}. {say('Taken back, and not entered again as they were')}: {len(lost)}{which}."
 
 
 def other_votes_words(marks: Iterable[str]) -> Iterator[str]:
