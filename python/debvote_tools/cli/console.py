@@ -20,7 +20,7 @@ from collections.abc import Callable, Iterable, Iterator, Sequence
 from typing import IO, Literal, NoReturn
 
 from debvote_tools.cli.faults import Fault, Status
-from debvote_tools.text.language import SPOKEN
+from debvote_tools.text.language import LANGUAGES, SPOKEN, language_of
 from debvote_tools.text.times import offset_of, time_in_words
 
 LINES_AT_ONCE = 1_000
@@ -71,12 +71,14 @@ ENDED = list[BaseException]()
 
 def prepare(*ending: signal.Signals) -> None:
     """Runs first. These signals end the program as an exit does, and a character that the terminal
-    can't show must not.
+    can't show must not. An office gives its language.
     """
     for number in ending:
         signal.signal(number, end)
     if isinstance(sys.stdout, io.TextIOWrapper):
         sys.stdout.reconfigure(errors="backslashreplace")
+    if (code := os.environ.get("DEBVOTE_LANGUAGE")) in LANGUAGES:
+        SPOKEN.set(language_of(code))
 
 
 def end(number: int, _: object = None) -> NoReturn:
@@ -364,7 +366,9 @@ def in_runs(numbers: Iterable[int]) -> str:
 
 def listed(names: Sequence[str], most: int) -> str:
     """Names in a sentence; of many the first."""
-    return ", ".join(names[:most]) + (f" and {len(names) - most} more" if len(names) > most else "")
+    return ", ".join(names[:most]) + (
+        f" {say('and {others} more', len(names) - most)}" if len(names) > most else ""
+    )
 
 
 def bar(part: int, whole: int, width: int) -> str:

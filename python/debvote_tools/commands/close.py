@@ -68,11 +68,7 @@ def close(election: Election, arguments: Arguments) -> None:
         tell(*still_taking_words(election, history))
     else:
         tell(
-            say(
-                "The vote was closed at {time}, with {lines} in time. Nothing was changed.",
-                act_time(act.time),
-                lines_in_words(fixed),
-            )
+            f"{say('The vote was closed at {time}, with {lines} in time.', act_time(act.time), lines_in_words(fixed))} {say('Nothing was changed.')}"
         )
     if written:
         tell(say("Made {file}.", path))

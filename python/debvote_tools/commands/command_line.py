@@ -3,7 +3,6 @@
 import argparse
 import gc
 import importlib
-import os
 import pathlib
 import signal
 import sys
@@ -13,7 +12,6 @@ from typing import Any
 from debvote_tools.cli import arguments, console
 from debvote_tools.cli.faults import Fault, Status, not_installed
 from debvote_tools.election import Election
-from debvote_tools.text.language import LANGUAGES, SPOKEN, language_of
 
 PROGRAM = "debvote-election"
 
@@ -74,17 +72,9 @@ def parser(typed: Sequence[str] = ()) -> argparse.ArgumentParser:
     return top
 
 
-def speak() -> None:
-    """Sets the language of what is said: an office gives its own."""
-    code = os.environ.get("DEBVOTE_LANGUAGE")
-    if code in LANGUAGES:
-        SPOKEN.set(language_of(code))
-
-
 def main(program_folder: pathlib.Path, typed: Sequence[str] | None = None) -> int:
     """Runs a command, and returns the exit status. `program_folder` is that of the program."""
     console.prepare(signal.SIGHUP, signal.SIGTERM)
-    speak()
     if not console.has_output():
         return console.failed(
             PROGRAM, "standard output is closed; nothing was changed", Status.BAD_OUTPUT

@@ -21,7 +21,7 @@ from debvote_tools.outbox.steps import tell_next
 from debvote_tools.poll.plain_names import ELECTOR_LIMIT, alike, similar_names
 from debvote_tools.poll.sealed import new_own_mark
 from debvote_tools.text.addresses import address_in, address_key
-from debvote_tools.text.language import Language, marked
+from debvote_tools.text.language import SPOKEN, Language, marked
 
 # `Eve & Dan`, `Eve und Dan`, `Eve/Dan`
 SEVERAL_PEOPLE = re.compile(r"\w ?[&+/] ?\w|\w (?:and|und|et) \w", re.IGNORECASE)
@@ -237,7 +237,7 @@ def notes_on_names(electors: Sequence[Member], language: Language) -> Iterator[N
     cut = [label_of(member) for member in electors if not member.name.startswith(member.proposal)]
     words = say("Note: a name has at most {most} characters, so these were cut", ELECTOR_LIMIT)
     yield words, cut, ""
-    pairs = map(" and ".join, similar_names(member.name for member in electors))
+    pairs = map(SPOKEN.get().joined, similar_names(member.name for member in electors))
     yield say("Note: these names are easily mistaken for each other"), list(pairs), ""
     real_names = {member.name: member.who for member in electors}
     taken = Names(frozenset(real_names), language.code, real_names, 0, {}).real_names_of_others

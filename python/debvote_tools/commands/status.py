@@ -204,8 +204,8 @@ def state_words(
     if state["waiting"]:
         yield until_looked_at(state["waiting"], election.command("held"))
     if state["stopping"]:
-        stops = "count and publish stop" if history.is_closed else "close stops"
-        yield f"These arrived in time, and {stops} while they wait: {', '.join(map(str, state['stopping']))}"
+        stops = say("count and publish stop") if history.is_closed else say("close stops")
+        yield f"{say('These arrived in time, and {commands} while they wait', stops)}: {', '.join(map(str, state['stopping']))}"
     for reason in dict.fromkeys(state["not_reached"].values()):
         names = [name for name, why in state["not_reached"].items() if why == reason]
         yield from named(f"Not reached by the call: {reason}", names)

@@ -97,8 +97,7 @@ def last_entering_act(vote: Vote, history: History) -> DoneAct:
     demand_open(vote.election, history)
     if number := queries.last_entering_act(vote.book):
         return history.act(number)
-    cure = say("see {command}", vote.election.command("status"))
-    raise Fault("undo", say("there is nothing to take back"), cure)
+    raise Fault("undo", "there is nothing to take back", f"see {vote.election.command('status')}")
 
 
 def what_else_changes(book: Book, struck: Sequence[int], letters: Sequence[int]) -> Iterator[str]:
