@@ -282,7 +282,7 @@ def written_words(
             yield f"Wrote {count_of(number, 'earlier letter')}, since the folder was not there: {folder}"
     if written:
         new = sum(bool(letter.address) for letter in due.new)
-        of_them = f", {say('{new} of them new', new or say('none'))}"
+        of_them = f", {say('{new} of them new', new) if new else say('none of them new')}"
         wrote = say("Wrote {letters}", count_of_letters(written))
         yield f"{wrote}{'' if new == written else of_them}: {place}"
     elif lost:

@@ -19,7 +19,7 @@ from debvote_tools.cli.faults import Fault
 from debvote_tools.election import Election, History
 from debvote_tools.inbox import letter_words
 from debvote_tools.inbox.fates import Fate, fates_of
-from debvote_tools.inbox.vote import IS_CODE, Vote
+from debvote_tools.inbox.vote import IS_CODE, Vote, envelope_words
 from debvote_tools.poll.codes import has_code
 
 
@@ -54,10 +54,10 @@ def show(election: Election, arguments: Arguments) -> None:
             outgoing.outgoing_letters(election.book, elector=elector.number),
             key=lambda letter: letter.time,
         ):
-            where = f"to {letter.address}" if letter.address else "to be printed"
+            where = say("to {address}", letter.address) if letter.address else say("to be printed")
             reply = f" ({shown_text(letter.reply)})" if letter.reply else ""
             tell(
-                f"  {letter.kind.removesuffix('s')}, {act_time(letter.time)}, {where}: {letter.state}{reply}"
+                f"  {letter.kind.removesuffix('s')}, {act_time(letter.time)}, {where}: {say(letter.state)}{reply}"
             )
 
 
@@ -95,18 +95,20 @@ def fate_words(vote: Vote, history: History, fate: Fate, came: Sequence[Envelope
                 if later.line == envelope.line and later.number > envelope.number
             )
             marks = [
-                "late",
+                say("late"),
                 *(f"entered again as {later.number}: {later.became}" for later in again),
             ]
-        marks += [f"{label} replaced" for label in fate.replaced]
+        marks += [f"{label} {say('replaced')}" for label in fate.replaced]
         if envelope.struck is not None:
             act = history.act(envelope.struck)
             because = shown_text(str(act.detail.get("because", "")))
-            struck = f"struck by {act.name} at {act_time(act.time)}"
+            struck = (
+                f"{say('struck by {act}', say(act.name))} {say('at {time}', act_time(act.time))}"
+            )
             marks.append(f"{struck}: {because}" if because else struck)
         marked = f" ({'; '.join(marks)})" if marks else ""
-        at_desk = f", at {shown_text(fate.desk)}" if fate.desk else ""
-        words = f"envelope {envelope.number}, {act_time(envelope.time)}{at_desk}{letter_words.sent_words(fate.came_by)}{marked}"
+        at_desk = f", {say('at {desk}', shown_text(fate.desk))}" if fate.desk else ""
+        words = f"{envelope_words([envelope.number])}, {act_time(envelope.time)}{at_desk}{letter_words.sent_words(fate.came_by)}{marked}"
         if fate.answers:
             yield vote.with_answers(words, fate.answers, "    ")
         else:
