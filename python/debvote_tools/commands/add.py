@@ -146,7 +146,7 @@ def asked_of_late(new: NewLines, arguments: Arguments) -> NewLines:
     without those that are not to be entered.
     """
     replacing = () if arguments.force else new.replacing.items()
-    declined = [line for line, words in replacing if not is_yes(f"{words}. Enter it?")]
+    declined = [line for line, words in replacing if not is_yes(f"{words}. {say('Enter it?')}")]
     files = [
         dataclasses.replace(file, new=[line for line in file.new if line not in declined])
         for file in new.files

@@ -437,8 +437,8 @@ def chosen_of(electors: Sequence[Elector], name: str) -> Elector | None:
     tell(say("`{part}` is part of {names} names:", name, len(electors)))
     for place, elector in enumerate(electors[:MAX_NAMES], start=1):
         tell(f"  {place} {elector.name} ({shown_text(elector.who)})")
-    asked = say("Type the number of one, or n for none:")
-    answer = (typed(f"{asked} ", "choice") or b"").strip()
+    asked = f"{say('Type the number of one, or n for none:')} "
+    answer = (typed(asked, "choice") or b"").strip()
     number = int(answer) if answer.isdigit() else 0
     return electors[number - 1] if 0 < number <= len(electors[:MAX_NAMES]) else None
 

@@ -283,8 +283,7 @@ def written_words(
     if written:
         new = sum(bool(letter.address) for letter in due.new)
         of_them = f", {say('{new} of them new', new) if new else say('none of them new')}"
-        wrote = say("Wrote {letters}", count_of_letters(written))
-        yield f"{wrote}{'' if new == written else of_them}: {place}"
+        yield f"{say('Wrote {letters}', count_of_letters(written))}{'' if new == written else of_them}: {place}"
     elif lost:
         yield say("No other letter is to be sent.")
     else:
@@ -388,8 +387,9 @@ def password_of(user: str, server: Server, file: str | None) -> str:
             f"the password of {shown_text(user)} can't be asked here",
             "give --password-file FILE, or run the command at a terminal",
         )
-    asked = say("The password of {user} on {server}", shown_text(user), server.host)
-    return typed_unseen(f"{asked}: ")
+    return typed_unseen(
+        f"{say('The password of {user} on {server}', shown_text(user), server.host)}: "
+    )
 
 
 # ---- the acts

@@ -383,6 +383,6 @@ def agreed_in_secret(
     agreed = publication.agreed_texts(history, texts, is_agreed=is_agreed)
     compared = dict.fromkeys(name for facts in questions for name in facts.compared)
     if compared and not is_agreed:
-        why = f"a comparison with the earlier result shows how these voted: {', '.join(compared)}"
+        why = f"{say('a comparison with the earlier result shows how these voted')}: {', '.join(compared)}"
         demand_yes(say("Publish it, although {why}?", why), why)
     return agreed

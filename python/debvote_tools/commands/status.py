@@ -223,8 +223,7 @@ def refused_words(election: Election, history: History, refused: list[Envelope])
     if history.has_codes_on_roll:
         yield f"{say('Refused')}: {envelope_words([envelope.number for envelope in refused])}"
         return
-    what = say("Refused lines of electors without a ballot to the question, or of nobody known")
-    yield f"{what} ({len(refused)}):"
+    yield f"{say('Refused lines of electors without a ballot to the question, or of nobody known')} ({len(refused)}):"
     for envelope in Vote(election).with_reasons_of_now(refused):
         yield f"  {envelope_words([envelope.number])}: {shown_line(envelope.line)}"
         word, _, why = str(envelope.why_refused).partition(": ")

@@ -103,12 +103,7 @@ def last_entering_act(vote: Vote, history: History) -> DoneAct:
 def what_else_changes(book: Book, struck: Sequence[int], letters: Sequence[int]) -> Iterator[str]:
     """Beside ballots: letters, and receipts, which tell of envelopes."""
     if letters:
-        waits = say_number(
-            "{number} letter then waits again, as taken back",
-            "{number} letters then wait again, as taken back",
-            len(letters),
-        )
-        yield f"{waits}: {', '.join(map(str, letters))}"
+        yield f"{say_number('{number} letter then waits again, as taken back', '{number} letters then wait again, as taken back', len(letters))}: {', '.join(map(str, letters))}"
     about = {("envelope", number, False) for number in struck}
     written = outgoing.outgoing_letters(book, "receipts")
     having = {letter.elector for letter in written if about.intersection(letter.about)}

@@ -14,9 +14,13 @@ from debvote_tools.cli.faults import Fault, Status, bad_words
 from debvote_tools.election import Election, History
 from debvote_tools.files import BALLOTS_LIMIT, LINES_LIMIT
 from debvote_tools.inbox.vote import CheckedLine, Vote, envelope_words, replies_to
+from debvote_tools.text.language import marked
 from debvote_tools.text.times import now
 
 CAME_BEFORE_CLOSE = "--came-before-close"
+WOULD_REPLACE = marked(
+    "`{line}` was late before, and would replace envelope {envelope}, which came in time"
+)
 
 
 class Arguments(Acting):
@@ -137,8 +141,7 @@ def replaced_in_time(
         return {}
     others = queries.late_beside_others(vote.book)
     return {
-        line: f"{line.original.where}: `{shown_line(line.as_entered)}` was late before, and would "
-        f"replace envelope {others[line.as_entered]}, which came in time"
+        line: f"{line.original.where}: {say(WOULD_REPLACE, shown_line(line.as_entered), others[line.as_entered])}"
         for line in lines
         if line.as_entered in others
     }

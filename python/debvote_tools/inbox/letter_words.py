@@ -71,8 +71,7 @@ def going_in_words(letters: Sequence[LetterCase], vote: Vote) -> Iterator[str]:
         sealed = [letter.elector for letter in letters if letter.read.link]
         letters = [letter for letter in letters if not letter.read.link]
         if sealed:
-            ballots = say_number("{number} sealed ballot", "{number} sealed ballots", len(sealed))
-            yield f"{ballots}: {', '.join(sorted({*sealed}))}"
+            yield f"{say_number('{number} sealed ballot', '{number} sealed ballots', len(sealed))}: {', '.join(sorted({*sealed}))}"
     are_many = vote.are_many(letter.sole_ballot.as_entered for letter in letters)
     between = "\n  " if vote.is_several else "; "
     for letter in letters:
@@ -85,8 +84,9 @@ def going_in_words(letters: Sequence[LetterCase], vote: Vote) -> Iterator[str]:
 def ballot_words(letter: LetterCase, vote: Vote, *, is_short: bool) -> str:
     line = letter.sole_ballot
     is_same = line.written == line.as_entered
-    written = f", {say('written')} `{shown_line(line.written.encode())}`"
-    as_written = "" if is_same or hides() else written
+    as_written = (
+        "" if is_same or hides() else f", {say('written')} `{shown_line(line.written.encode())}`"
+    )
     whose = f"{line.elector} ({name_of(letter)}{as_written})"
     return vote.with_answers(whose, line.as_entered.partition(" ")[2], is_short=is_short)
 
@@ -170,8 +170,7 @@ def near_words(letter: LetterCase) -> Iterator[str]:
         ranks = f"{say('ranks')} {shown_text(near.ranks)}: {near.answer}"
         yield f"{line_words(near.number)}, {private(ranks)}"
     for number in letter.read.text.outside:
-        looks = say("in a quotation or a signature looks like an answer")
-        yield f"{line_words(number)} {looks}"
+        yield f"{line_words(number)} {say('in a quotation or a signature looks like an answer')}"
 
 
 def line_words(number: int) -> str:
