@@ -118,7 +118,7 @@ class Desk:
         return self.names.words if self.vote.label else self.vote.names.words
 
     def next_typed(self) -> bytes | None:
-        answer = self.typed or typed("Ballot: ", "ballot")
+        answer = self.typed or typed(f"{say('Ballot')}: ", "ballot")
         self.typed = None
         return answer
 
@@ -353,16 +353,19 @@ def at_terminal(desk: Desk) -> None:
         if vote.poll is None or vote.poll is poll:
             tell(*([f"{label} {poll.name}"] if label else []))
             tell(*(f"  {number} {name}" for number, name in enumerate(poll.names, start=1)))
-    order = "then a rank for each option in this order"
+    order = say("then a rank for each option in this order")
     if vote.poll is None:
-        order = "then for each question that is answered its label, and a rank for each option in this order"
+        order = say(
+            "then for each question that is answered its label, and a rank for each option in this order"
+        )
+    who = say("the code") if vote.has_codes else say("the elector")
     tell(
-        f"{vote.right_words()} q ends."
+        f"{vote.right_words()} {say('q ends.')}"
         if vote.has_tellers
-        else f"Type a ballot as {vote.right_line} ({'the code' if vote.has_codes else 'the elector'}, {order}); q ends."
+        else f"{say('Type a ballot as {line}', vote.right_line)} ({who}, {order}); {say('q ends.')}"
     )
     if words := desk.answer_in_letters():
-        tell(f"In place of the ranks of a motion: {', '.join(words)}.")
+        tell(f"{say('In place of the ranks of a motion')}: {', '.join(words)}.")
     while not desk.is_over and (answer := desk.next_typed()) is not None:
         line = next(iter(desk.lines_of(answer)), None)
         if line is None or line.is_empty:
@@ -475,7 +478,8 @@ def question(
         shown += earlier_words(desk.vote, ballots[0], elector)
     if ballots == lines:
         return shown, say("Enter it?")
-    return shown, "What is refused does not count. Type the line anew, or enter to enter it so: "
+    anew = say("What is refused does not count. Type the line anew, or enter to enter it so:")
+    return shown, f"{anew} "
 
 
 def earlier_words(vote: Vote, ballot: CheckedLine, elector: int) -> Iterator[str]:

@@ -50,15 +50,14 @@ def show(election: Election, arguments: Arguments) -> None:
         if current and vote.is_several:
             words += f": {elector.name} {current}"
         tell(vote.with_answers(words, current) if current else f"{words}: {say('none')}")
-        for letter in sorted(
-            outgoing.outgoing_letters(election.book, elector=elector.number),
-            key=lambda letter: letter.time,
-        ):
-            where = say("to {address}", letter.address) if letter.address else say("to be printed")
-            reply = f" ({shown_text(letter.reply)})" if letter.reply else ""
-            tell(
-                f"  {letter.kind.removesuffix('s')}, {act_time(letter.time)}, {where}: {say(letter.state)}{reply}"
-            )
+        letters = outgoing.outgoing_letters(election.book, elector=elector.number)
+        tell(*map(outgoing_words, sorted(letters, key=lambda letter: letter.time)))
+
+
+def outgoing_words(letter: outgoing.OutgoingLetter) -> str:
+    where = say("to {address}", letter.address) if letter.address else say("to be printed")
+    reply = f" ({shown_text(letter.reply)})" if letter.reply else ""
+    return f"  {letter.kind.removesuffix('s')}, {act_time(letter.time)}, {where}: {say(letter.state)}{reply}"
 
 
 def elector_named(election: Election, vote: Vote, name: str) -> queries.Elector:

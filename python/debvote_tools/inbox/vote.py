@@ -457,7 +457,10 @@ class Vote:
     def right_words(self) -> str:
         """A ballot line with what each rank is of, as `explain` has it."""
         if self.has_tellers:
-            return f"Type `{self.right_line}` for each who votes on paper; the page alone seals ballots."
+            words = marked(
+                "Type `{line}` for each who votes on paper; the page alone seals ballots."
+            )
+            return say(words, self.right_line)
         polls = {"": self.poll} if self.poll else self.questions
         options = "; ".join(
             f"{label} {numbered(poll.names)}".strip() for label, poll in polls.items()
