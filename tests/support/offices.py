@@ -11,11 +11,28 @@ import sys
 import time
 import urllib.parse
 
+from debvote_tools.text.language import language_of
+
 from tests.support import elections
 from tests.support.program import ROOT
 
 OFFICE = ROOT / "bin" / "debvote-office"
 TAGS = re.compile(r"<[^>]*>")
+
+
+class Spoken:
+    """A test whose offices speak a language. `say` and `say_number` say sentences as they do."""
+
+    language = "en"
+
+    def setUp(self):
+        super().setUp()
+        self.spoken = language_of(self.language)
+        self.say = self.spoken.say
+        self.say_number = self.spoken.say_number
+
+    def office(self):
+        return Office(self, "--language", self.language)
 
 
 class Office:

@@ -1,5 +1,5 @@
 #!/usr/bin/python3
-"""The sentences of debvote_tools that electors read, from its code, and their translations.
+"""The sentences of debvote_tools that have translations, from its code.
 
     tests/support/sentences.py de
 
@@ -9,6 +9,7 @@ prints the entries that de.po lacks, and those that nothing in the code uses.
 import ast
 import dataclasses
 import functools
+import itertools
 import pathlib
 import re
 import sys
@@ -25,6 +26,10 @@ WITH_ONE = {"say", "say_each", "marked", "between"}
 WITH_TWO = {"say_number"}
 # how a sentence begins that is marked by nothing else
 BEGINS = "The reason: "
+# the enumerations whose values are sentences, or begin with one; and the words of the log
+SAID = {"Reason", "LetterOutcome"}
+ACTS = "ActName"
+FACTS = "SHOWN"
 
 
 @dataclasses.dataclass(frozen=True)
@@ -40,6 +45,8 @@ class Entry:
 @functools.cache
 def in_code() -> dict[tuple[str, ...], str]:
     """The sentences of the code and of the templates, each with the first place where it occurs."""
+    from debvote_tools.office import acts
+
     found: dict[tuple[str, ...], str] = {}
     templates = jinja2.Environment(extensions=["jinja2.ext.i18n"])
     for file in sorted(PACKAGE.rglob("templates/*")):
@@ -55,10 +62,19 @@ def in_code() -> dict[tuple[str, ...], str]:
         for node in ast.walk(ast.parse(file.read_text(encoding="utf-8"))):
             for texts in texts_of(node):
                 found.setdefault(texts, f"{file.relative_to(PACKAGE)}:{node.lineno}")
+    for form in itertools.chain.from_iterable(acts.phases().values()):
+        for text in (form.help, *(field.help for field in form.fields)):
+            found.setdefault((text,), f"commands/{form.name}.py")
     return found
 
 
 def texts_of(node: ast.AST) -> list[tuple[str, ...]]:
+    if isinstance(node, ast.ClassDef) and node.name in SAID:
+        values = [line.value for line in node.body if isinstance(line, ast.Assign)]
+        return [(literals(value)[0],) for value in values]
+    if isinstance(node, ast.Assign) and getattr(node.targets[0], "id", "") in (ACTS, FACTS):
+        words = [text for one in ast.walk(node.value) for text in literals(one)]
+        return [(word,) for word in (words if words[1:] else " ".join(words).split())]
     if (
         isinstance(node, ast.Constant)
         and isinstance(node.value, str)
@@ -166,4 +182,5 @@ def tell_new(code: str):
 
 
 if __name__ == "__main__":
+    sys.path.insert(0, str(PACKAGE.parent))
     tell_new(sys.argv[1])

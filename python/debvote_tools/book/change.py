@@ -7,11 +7,9 @@ from typing import TypeVar
 
 from debvote_tools.book import outgoing, queries
 from debvote_tools.book.book import ActName, Book, Detail, NewAct, Overtaken
-from debvote_tools.cli.console import is_terminal, is_yes, tell
+from debvote_tools.cli.console import is_terminal, is_yes, say, tell
 from debvote_tools.cli.faults import Fault
 from debvote_tools.files import uninterrupted
-
-MEANWHILE = "Nothing was done: another command changed the election meanwhile. Now it is so:"
 
 
 @dataclasses.dataclass(frozen=True)
@@ -45,7 +43,8 @@ class Change:
 
     def declined(self, _: bool | None) -> None:
         """What follows if the answer is no; None is the end of the input."""
-        raise Fault(None, "you did not say yes", "run the command again when you agree")
+        cure = say("run the command again when you agree")
+        raise Fault(None, say("you did not say yes"), cure)
 
     def is_same_now(self) -> bool:
         """Within the act, if others came since it was planned: whether it would be planned so
@@ -97,7 +96,11 @@ def carried_out(book: Book, plan: Callable[[], Planned]) -> Planned:
         change = plan()
         if change != shown:
             if shown is not None and is_terminal():
-                tell(MEANWHILE)
+                tell(
+                    say(
+                        "Nothing was done: another command changed the election meanwhile. Now it is so:"
+                    )
+                )
             change.show()
             if change.is_nothing:
                 return change

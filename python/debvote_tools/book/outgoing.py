@@ -10,11 +10,12 @@ from typing import NamedTuple
 
 from debvote_tools.book.book import Book, NewAct, from_text
 from debvote_tools.grouping import grouped
+from debvote_tools.text.language import marked
 
 # a letter is written before a server gets it. A server takes it, or refuses it, perhaps only for
 # now; what a run that was cut off has sent is still only written
 WRITTEN = "written"
-TAKEN = "taken"
+TAKEN = marked("taken")
 REFUSED = "refused"
 
 # the subject of a receipt: an envelope or a letter, its number, and whether it says that the

@@ -25,6 +25,7 @@ from debvote_tools.poll.plain_names import (
     made_different,
 )
 from debvote_tools.text.addresses import ADDRESS, address_key
+from debvote_tools.text.language import marked
 
 DELIMITERS = {",": "comma", ";": "semicolon", "\t": "tab"}
 # longer than a file that is read, so that a cell has no limit of its own
@@ -45,7 +46,7 @@ REQUIRED = ("who", "mail")
 WORDS_OF_HEADS = {*re.findall(r"\w+", " ".join(HEADS.values()))}
 
 # what is told of a member that changes
-TOLD = ("name", "who", "address", "key")
+TOLD = marked(("name", "who", "address", "key"))
 
 # the file that `new` writes
 NEW_MEMBERS = "who,mail\n"

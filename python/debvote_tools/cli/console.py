@@ -20,7 +20,8 @@ from collections.abc import Callable, Iterable, Iterator, Sequence
 from typing import IO, Literal, NoReturn
 
 from debvote_tools.cli.faults import Fault, Status
-from debvote_tools.text.times import offset_of
+from debvote_tools.text.language import LANGUAGES, SPOKEN, language_of
+from debvote_tools.text.times import offset_of, time_in_words
 
 LINES_AT_ONCE = 1_000
 
@@ -70,12 +71,14 @@ ENDED = list[BaseException]()
 
 def prepare(*ending: signal.Signals) -> None:
     """Runs first. These signals end the program as an exit does, and a character that the terminal
-    can't show must not.
+    can't show must not. An office gives its language.
     """
     for number in ending:
         signal.signal(number, end)
     if isinstance(sys.stdout, io.TextIOWrapper):
         sys.stdout.reconfigure(errors="backslashreplace")
+    if (code := os.environ.get("DEBVOTE_LANGUAGE")) in LANGUAGES:
+        SPOKEN.set(language_of(code))
 
 
 def end(number: int, _: object = None) -> NoReturn:
@@ -188,7 +191,7 @@ def is_yes(question: str) -> bool | None:
         word = answer.strip().lower()
         if word in (b"y", b"yes", b"n", b"no"):
             return word.startswith(b"y")
-        tell("Type y for yes, or n for no.")
+        tell(say("Type y for yes, or n for no."))
     return None
 
 
@@ -199,8 +202,9 @@ def demand_yes(question: str, why: str) -> None:
     if not is_terminal():
         cure = "check that this is all right, then repeat the command with --yes"
         raise Fault(None, f"the vote is secret, and {why}", cure)
-    if not is_yes(f"The vote is secret. {question}"):
-        raise Fault(None, "you did not say yes", "put it right, then repeat the command")
+    if not is_yes(say("The vote is secret. {question}", question)):
+        cure = say("put it right, then repeat the command")
+        raise Fault(None, say("you did not say yes"), cure)
 
 
 # ---- characters
@@ -305,6 +309,25 @@ def cut(text: str, limit: int) -> str:
     return text if len(text) <= limit else text[:limit] + ".."
 
 
+# ---- sentences
+# a place of a sentence, but for its number
+PLACE = re.compile(r"\{(?!number\})(\w+)\}")
+
+
+def say(text: str, /, *values: object, **places: object) -> str:
+    """A sentence to the secretary. The values are those of its places, in their order."""
+    return SPOKEN.get().say(text, **dict(zip(PLACE.findall(text), values)), **places)
+
+
+def say_number(one: str, many: str, number: int, /, *values: object) -> str:
+    """The same in its form for a number, whose place is `{number}`."""
+    return SPOKEN.get().say_number(one, many, number, **dict(zip(PLACE.findall(many), values)))
+
+
+def say_time(time: datetime.datetime) -> str:
+    return time_in_words(time, SPOKEN.get())
+
+
 # ---- words of several commands
 # how wide a terminal is taken to be
 WIDTH = 100
@@ -313,6 +336,23 @@ WIDTH = 100
 def count_of(number: int, noun: str, plural: str | None = None) -> str:
     """A number with its noun, as `1 line` or `2 lines`."""
     return f"{number} {noun if number == 1 else plural or noun + 's'}"
+
+
+def count_of_lines(number: int) -> str:
+    return say_number("{number} line", "{number} lines", number)
+
+
+def count_of_letters(number: int) -> str:
+    return say_number("{number} letter", "{number} letters", number)
+
+
+def wait_words(letters: int) -> str:
+    return say_number("{number} letter waits", "{number} letters wait", letters)
+
+
+def until_looked_at(letters: int, held: str) -> str:
+    """How many letters wait, and the command that shows them."""
+    return f"{wait_words(letters)} {say('until you have looked at them')}: {held}"
 
 
 def in_runs(numbers: Iterable[int]) -> str:
@@ -326,7 +366,9 @@ def in_runs(numbers: Iterable[int]) -> str:
 
 def listed(names: Sequence[str], most: int) -> str:
     """Names in a sentence; of many the first."""
-    return ", ".join(names[:most]) + (f" and {len(names) - most} more" if len(names) > most else "")
+    return ", ".join(names[:most]) + (
+        f" {say('and {others} more', len(names) - most)}" if len(names) > most else ""
+    )
 
 
 def bar(part: int, whole: int, width: int) -> str:
@@ -349,5 +391,10 @@ def wrapped(names: Iterable[str]) -> str:
 def quorum_words(multiple: int, votes: int) -> str:
     """What a quorum asks for: a number of times Q, which is a number of votes."""
     if multiple == 0:
-        return "Quorum: none"
-    return f"Quorum: {count_of(votes, 'vote')} ({multiple}Q): at least {count_of(votes, 'elector')} must prefer an option to the default option"
+        return say("Quorum: none")
+    return say_number(
+        "Quorum: {number} vote ({multiple}Q): at least {number} elector must prefer an option to the default option",
+        "Quorum: {number} votes ({multiple}Q): at least {number} electors must prefer an option to the default option",
+        votes,
+        multiple,
+    )

@@ -5,6 +5,8 @@ import dataclasses
 import enum
 from collections.abc import Iterable, Iterator
 
+from debvote_tools.text.language import SPOKEN, marked
+
 
 class Status(enum.IntEnum):
     """The exit statuses: those of debvote, and that of a shell if there is no debvote."""
@@ -25,7 +27,17 @@ class Status(enum.IntEnum):
 
 # what most faults say was done
 NOTHING = "nothing was "
-NOTHING_CHANGED = f"{NOTHING}changed"
+NOTHING_DONE = marked(
+    {
+        "added": "nothing was added",
+        "changed": "nothing was changed",
+        "counted": "nothing was counted",
+        "entered": "nothing was entered",
+        "published": "nothing was published",
+        "written": "nothing was written",
+    }
+)
+NOTHING_CHANGED = NOTHING_DONE["changed"]
 
 
 @dataclasses.dataclass(eq=False)
@@ -55,7 +67,7 @@ class Fault(Exception):
         done = self.done or ""
         rest = done.removeprefix(NOTHING_CHANGED)
         if rest != done:
-            self.done = (acts or f"{NOTHING}{nothing}") + rest
+            self.done = (acts or SPOKEN.get().say(NOTHING_DONE[nothing])) + rest
         elif acts and done.startswith(NOTHING):
             self.done = f"{acts}; {done}"
         return self

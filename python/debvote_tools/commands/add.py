@@ -11,7 +11,15 @@ from debvote_tools.book.book import Book, Detail, DoneAct, NewAct
 from debvote_tools.book.change import carried_out
 from debvote_tools.book.queries import Envelope, NewEnvelope
 from debvote_tools.cli.arguments import demand_reason, flag, given, has_reason, positional
-from debvote_tools.cli.console import count_of, is_terminal, is_yes, shown_line, tell, tell_many
+from debvote_tools.cli.console import (
+    count_of,
+    is_terminal,
+    is_yes,
+    say,
+    shown_line,
+    tell,
+    tell_many,
+)
 from debvote_tools.cli.faults import Fault, bad_words, stop_at
 from debvote_tools.debvote import TABLE
 from debvote_tools.election import Election, History
@@ -23,9 +31,10 @@ from debvote_tools.inbox.option_names import OptionNames
 from debvote_tools.inbox.vote import CheckedLine, Vote, replies_to, summary
 from debvote_tools.outbox.steps import tell_next
 from debvote_tools.text.ballots import part_of
+from debvote_tools.text.language import marked
 
 FORCE = "add it anyway with --force"
-NOTHING_NEW = "There is nothing new, and nothing was added."
+NOTHING_NEW = marked("There is nothing new, and nothing was added.")
 
 # how many lines are shown that are no ballots, and how many that came before and no longer count
 MAX_REFUSED = 10
@@ -137,7 +146,7 @@ def asked_of_late(new: NewLines, arguments: Arguments) -> NewLines:
     without those that are not to be entered.
     """
     replacing = () if arguments.force else new.replacing.items()
-    declined = [line for line, words in replacing if not is_yes(f"{words}. Enter it?")]
+    declined = [line for line, words in replacing if not is_yes(f"{words}. {say('Enter it?')}")]
     files = [
         dataclasses.replace(file, new=[line for line in file.new if line not in declined])
         for file in new.files
@@ -172,7 +181,7 @@ class Addition(entering.Entry):
 
     def words(self, numbers: range, replies: Sequence[str]) -> Iterator[str]:
         yield from report_of_files(self.vote, self.new, numbers, replies)
-        yield f"Added {summary(replies)}."
+        yield say("Added {lines}.", summary(replies))
 
 
 def what_is_added(vote: Vote, files: Sequence[FileLines], arguments: Arguments) -> Addition:
@@ -190,7 +199,7 @@ def what_is_added(vote: Vote, files: Sequence[FileLines], arguments: Arguments) 
         detail["came_before_close"] = came_before_close
     shown = list[str]()
     if not new.lines:
-        shown = [*report_of_files(vote, new, (), ()), NOTHING_NEW]
+        shown = [*report_of_files(vote, new, (), ()), say(NOTHING_NEW)]
     elif vote.is_signed:
         detail["unsigned"] = True
         detail["because"] = demand_reason(arguments.because, "--force")
@@ -338,7 +347,7 @@ def look(vote: Vote, files: Sequence[FileLines], arguments: Arguments) -> None:
         )
     tell_many(report_of_files(vote, new, numbers, replies))
     stop_at(faults_of_lines(vote, new, arguments))
-    tell(f"These would be {summary(replies)}. Nothing was changed.")
+    tell(say("These would be {lines}. Nothing was changed.", summary(replies)))
 
 
 # ---- what a person has to look at first
@@ -464,7 +473,7 @@ def report_of_files(
     vote: Vote, new: NewLines, numbers: Sequence[int], replies: Sequence[str]
 ) -> Iterator[str]:
     if numbers:
-        yield from entering.late_notes(vote.election, new.history, "what is added")
+        yield from entering.late_notes(vote.election, new.history, say("what is added"))
     for file in new.files:
         if b"\r\n" in file.file.data:
             yield f"{file.name}: its lines end as Windows ends them"

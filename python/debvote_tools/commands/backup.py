@@ -3,7 +3,7 @@
 import pathlib
 
 from debvote_tools.cli.arguments import Options, positional
-from debvote_tools.cli.console import tell
+from debvote_tools.cli.console import say, tell
 from debvote_tools.commands.export import demand_new
 from debvote_tools.election import Election
 from debvote_tools.outbox.steps import Step, tell_next
@@ -26,7 +26,11 @@ def backup(election: Election, arguments: Arguments) -> None:
     book.back_up(target)
     book.note_done(Step.BACKUP.value, last)
     tell(
-        f"Copied the book up to act {last} into {target}. Only you can read it; it holds everything that came or was done."
+        say(
+            "Copied the book up to act {act} into {file}. Only you can read it; it holds everything that came or was done.",
+            last,
+            target,
+        )
     )
     if election.history().announced("box"):
         tell(f"Keep it as safe as the book itself: {WHO_HAS_IT}.")

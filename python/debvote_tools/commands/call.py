@@ -26,7 +26,7 @@ from debvote_tools.call.tellers import (
     tellers_in,
 )
 from debvote_tools.cli.arguments import Acting, flag, given, option
-from debvote_tools.cli.console import act_time, is_terminal, is_yes, tell
+from debvote_tools.cli.console import act_time, is_terminal, is_yes, say, say_time, tell
 from debvote_tools.cli.faults import Fault, bad_words, kept_in, stop_at
 from debvote_tools.commands.backup import WHO_HAS_IT
 from debvote_tools.commands.check import (
@@ -304,14 +304,14 @@ def take_back(election: Election) -> None:
     Change("take back", detail, electors=lapsed).do(book, history.last.number)
     note_tellers(election, ())
     remove_void(election, election.history())
-    tell("Took the call back. If anybody has seen it, tell them that it is void.")
+    tell(say("Took the call back. If anybody has seen it, tell them that it is void."))
     if history.announced("box"):
         tell(f"Remove {SCRIPT} from the web host, until the next call.")
     if void_codes:
         tell(
             f"All {void_codes} codes are void, and their slips and table are removed: destroy what is printed."
         )
-    tell("Put right what was wrong.")
+    tell(say("Put right what was wrong."))
     tell_next(election)
 
 
@@ -431,7 +431,7 @@ def asked_slips() -> str:
     """Whether electors get their codes, without which they do not find their ballots in the
     result.
     """
-    question = "Will slips with codes be handed out, with which electors find their ballots?"
+    question = say("Will slips with codes be handed out, with which electors find their ballots?")
     answer = is_yes(question) if is_terminal() else None
     if answer is None:
         raise Fault(
@@ -516,7 +516,7 @@ def make_folders(election: Election) -> None:
 def call_in_words(election: Election, data: CallData) -> Iterator[str]:
     folder = election.path(CALL)
     is_several = data.questions.is_several
-    yield f"Made the folder {folder} with the page index.html and the letter call.txt."
+    yield say("Made the folder {folder} with the page index.html and the letter call.txt.", folder)
     slips = election.path(PRIVATE) / SLIPS
     if data.has_codes_on_roll:
         yield "Codes are on the roll: the call has the checksum of the poll, but no poll.toml."
@@ -533,10 +533,11 @@ def call_in_words(election: Election, data: CallData) -> Iterator[str]:
             if data.has_slips
             else "No slips: nobody can find their ballot in the result."
         )
-    yield f"Checksum of the {'polls' if is_several else 'poll'}: {data.questions.checksum}"
-    yield f"Mark of the poll, at the end of each subject: {data.mark}"
+    whose = say("Checksum of the polls") if is_several else say("Checksum of the poll")
+    yield f"{whose}: {data.questions.checksum}"
+    yield f"{say('Mark of the poll, at the end of each subject')}: {data.mark}"
     if data.until is not None:
-        yield f"End of the vote: {times.time_in_words(data.until)}"
+        yield f"{say('End of the vote')}: {say_time(data.until)}"
     if data.is_extended:
         yield f"Made {election.path(LETTERS) / EXTENSION}, the letter to all that says so."
     unsaid = {"when the vote ends (--until)": data.until, "where ballots go (--to)": data.to}
@@ -544,8 +545,13 @@ def call_in_words(election: Election, data: CallData) -> Iterator[str]:
         yield f"The call does not say {' nor '.join(missing)}."
     if data.has_box:
         yield from box_in_words(election, data)
-    sealed = "The polls are sealed: polls/" if is_several else "The poll is sealed: poll.toml"
-    yield f"{sealed} and texts/ of this folder are no longer read; roll still reads addresses and keys."
+    sealed = say("The poll is sealed: poll.toml")
+    if is_several:
+        sealed = say("The polls are sealed: polls/")
+    yield say(
+        "{sealed} and texts/ of this folder are no longer read; roll still reads addresses and keys.",
+        sealed,
+    )
 
 
 def box_in_words(election: Election, data: CallData) -> Iterator[str]:

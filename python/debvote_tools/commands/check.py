@@ -30,7 +30,7 @@ from debvote_tools.call.draft import (
 from debvote_tools.call.members import AGAIN, Roll, label_of, roll_of
 from debvote_tools.call.tellers import check_off, fingerprints, public_poll, tellers_in
 from debvote_tools.cli.arguments import Options, option
-from debvote_tools.cli.console import count_of, listed, quorum_words, shown_text, tell, wrapped
+from debvote_tools.cli.console import count_of, listed, quorum_words, say, shown_text, tell, wrapped
 from debvote_tools.cli.faults import Fault, bad_words, kept_in, stop_at
 from debvote_tools.commands.export import demand_new
 from debvote_tools.election import (
@@ -86,11 +86,23 @@ def check(election: Election, arguments: Arguments) -> None:
         return
     draft = checked(election)
     questions = draft.questions
-    electors = f"{len(questions.roll)} electors"
+    electors = len(questions.roll)
     if questions.is_several:
-        tell(f"The polls are in order: {len(questions)} questions, {electors}.")
+        tell(
+            say(
+                "The polls are in order: {questions} questions, {electors} electors.",
+                len(questions),
+                electors,
+            )
+        )
     else:
-        tell(f"The poll is in order: {len(questions[''].names)} options, {electors}.")
+        tell(
+            say(
+                "The poll is in order: {options} options, {electors} electors.",
+                len(questions[""].names),
+                electors,
+            )
+        )
     tell_checked(draft)
     if tellers := tellers_in(election):
         tell(f"Tellers, in the order in which they open: {fingerprints(tellers)}")
@@ -100,7 +112,7 @@ def check(election: Election, arguments: Arguments) -> None:
     for label, poll in questions.items():
         tell(f"{label and f'{label}: '}{quorum_words(poll.quorum, draft.quorums[label])}")
     if not history.has_codes_on_roll:
-        tell(f"Electors: {len(questions.roll)}", wrapped(questions.roll))
+        tell(f"{say('Electors')}: {electors}", wrapped(questions.roll))
     tell_next(election, Step.CHECK)
 
 
@@ -278,12 +290,12 @@ def faults_of_ballots(
 
 
 def tell_checked(draft: Checked) -> None:
-    tell(f"Title: {draft.questions.name}")
+    tell(f"{say('Title')}: {draft.questions.name}")
     for label, poll in draft.questions.items():
         tell(*poll_in_words(label, poll))
     lines = draft.letter_text.splitlines()
     if lines:
-        tell(f"Letters to electors begin with {LETTER_TEXT}:")
+        tell(f"{say('Letters to electors begin with {file}', LETTER_TEXT)}:")
         tell(*(f"  {line}".rstrip() for line in lines))
 
 
@@ -318,27 +330,26 @@ def poll_in_words(label: str, poll: SealedPoll) -> Iterator[str]:
     """What is asked, below the title of the one question; of several each option on one line."""
     between = "; " if label else "\n     "
     if label:
-        yield f"Question {label}: {poll.name}"
+        yield f"{say('Question {label}', label)}: {poll.name}"
     if poll.name != poll.title:
-        yield f"  plain: {poll.title}"
+        yield f"  {say('plain')}: {poll.title}"
     if not label:
-        yield "Options:"
+        yield say("Options:")
     # the default option is the last, and has no ratio and no text
     options = itertools.zip_longest(poll.names, poll.plain_names, poll.ratios, poll.explanations)
     for number, (name, plain, ratio, text) in enumerate(options, start=1):
-        said = [
-            f"{number:3}  {name} ({f'majority ratio {ratio}' if ratio else 'the default option'})"
-        ]
+        what = say("majority ratio {ratio}", ratio) if ratio else say("the default option")
+        said = [f"{number:3}  {name} ({what})"]
         if name != plain:
-            said.append(f"plain: {plain}")
+            said.append(f"{say('plain')}: {plain}")
         if text:
             words = count_of(len(text.split()), "word")
             said.append(f"text: {words} from {TEXTS}/{place_of(label, f'{number}.txt')}")
         yield between.join(said)
     if poll.motion:
-        yield "A motion, yes: {}, no: {}".format(*poll.names)
+        yield say("A motion, yes: {yes}, no: {no}", *poll.names)
     if poll.wording == "more_than":
-        yield "Majority: more than the ratio (Debian's rule is at least the ratio)"
+        yield say("Majority: more than the ratio (Debian's rule is at least the ratio)")
 
 
 # ---- the list of members

@@ -9,7 +9,7 @@ from debvote_tools.book.book import Detail, DoneAct
 from debvote_tools.book.change import Change, carried_out, terminal_question
 from debvote_tools.call.secret import seal_line, sealed_checksum
 from debvote_tools.cli.arguments import Acting, demand_reason, flag, has_reason, option
-from debvote_tools.cli.console import act_time, count_of, tell
+from debvote_tools.cli.console import act_time, count_of, count_of_lines, say, say_time, tell
 from debvote_tools.cli.faults import Fault, stop_at
 from debvote_tools.election import LETTERS, Election, Fixed, History, fixed_by
 from debvote_tools.files import OWN, write_made
@@ -26,9 +26,12 @@ from debvote_tools.outbox.steps import Step, tell_next, words_of
 from debvote_tools.result.file_names import CLOSED
 from debvote_tools.result.publication import Kept, closing_letter, kept_of
 from debvote_tools.text import times
+from debvote_tools.text.language import SPOKEN, marked
 
 # the question before the close
-ALL = "Is that all? It is if the mailbox was added just now, all paper is entered, and no desk is open."
+ALL = marked(
+    "Is that all? It is if the mailbox was added just now, all paper is entered, and no desk is open."
+)
 
 
 class Arguments(Acting):
@@ -65,17 +68,12 @@ def close(election: Election, arguments: Arguments) -> None:
         tell(*still_taking_words(election, history))
     else:
         tell(
-            f"The vote was closed at {act_time(act.time)}, with {lines_in_words(fixed)} in time. Nothing was changed."
+            f"{say('The vote was closed at {time}, with {lines} in time.', act_time(act.time), lines_in_words(fixed))} {say('Nothing was changed.')}"
         )
     if written:
-        tell(f"Made {path}.")
-    tell(
-        *(
-            f"Checksum of the ballots{label and f' of question {label}'}{' with the random line' if of_one.seal else ''}: {of_one.checksum}"
-            for label, of_one in fixed.items()
-        ),
-        f"Send {path} to all electors before you count anything.",
-    )
+        tell(say("Made {file}.", path))
+    tell(*checksums_in_words(fixed))
+    tell(say("Send {file} to all electors before you count anything.", path))
     if history.tellers:
         tell(*urn.voted_words(election, history))
     if history.announced("to"):
@@ -106,17 +104,30 @@ def is_forced(arguments: Arguments) -> bool:
 
 def lines_in_words(fixed: Mapping[str, Fixed]) -> str:
     return ", ".join(
-        f"{count_of(of_one.lines, 'line')}{label and f' of question {label}'}"
-        for label, of_one in fixed.items()
+        f"{count_of_lines(of_one.lines)}{of_question(label)}" for label, of_one in fixed.items()
     )
+
+
+def checksums_in_words(fixed: Mapping[str, Fixed]) -> Iterator[str]:
+    sealed = f" {say('with the random line')}"
+    for label, of_one in fixed.items():
+        what = f"{say('Checksum of the ballots')}{of_question(label)}"
+        yield f"{what}{of_one.seal and sealed}: {of_one.checksum}"
+
+
+def of_question(label: str) -> str:
+    return label and f" {say('of question {label}', label)}"
 
 
 def tell_closed(act: DoneAct) -> None:
     detail = act.detail
     if detail["early"]:
-        tell("Note: the announced end of the vote has not come yet; the result page says so.")
+        tell(say("Note: the announced end of the vote has not come yet; the result page says so."))
     tell(
-        f"Closed: {lines_in_words(fixed_by(act))} came in time. Lines that are entered from now on are late, and do not count."
+        say(
+            "Closed: {lines} came in time. Lines that are entered from now on are late, and do not count.",
+            lines_in_words(fixed_by(act)),
+        )
     )
     for number, when in (
         (detail["waiting"], "arrived in time did not go in; the result page says so."),
@@ -140,8 +151,8 @@ class Closing(Change):
     def declined(self, _: bool | None) -> None:
         raise Fault(
             None,
-            "you did not say that this is all",
-            "enter what is missing, then run the command again",
+            say("you did not say that this is all"),
+            say("enter what is missing, then run the command again"),
         )
 
 
@@ -156,10 +167,11 @@ def came_last(election: Election, history: History, lines: str) -> str:
         for act in history.named("letters", "add", "enter", "desk")
         if act.number not in undone and act.detail.get("letters") != 0
     }
-    end = times.time_in_words(history.until) if history.until else "not announced"
+    never = say("never")
+    end = say_time(history.until) if history.until else say("not announced")
     return (
-        f"Until now {lines} came in time. Added last: {last.get(False, 'never')}. Entered last at a desk: {last.get(True, 'never')}. "
-        f"{taken_out_words(election, history)} End of the vote: {end}."
+        f"{say('Until now {lines} came in time.', lines)} {say('Added last')}: {last.get(False, never)}. {say('Entered last at a desk')}: {last.get(True, never)}. "
+        f"{taken_out_words(election, history)} {say('End of the vote')}: {end}."
     )
 
 
@@ -184,7 +196,7 @@ def what_is_closed(election: Election, arguments: Arguments) -> Closing:
     if stopping:
         detail["because"] = demand_reason(arguments.because, "--force")
     shown = [*what_came(election, history, fixed, pending), *words_of(election, Step.RECEIPTS)]
-    question = terminal_question(ALL, arguments.yes)
+    question = terminal_question(say(ALL), arguments.yes)
     return Closing("close", detail, shown=shown, question=question, sealed=sealed)
 
 
@@ -209,8 +221,15 @@ def faults_now(
 def too_early(election: Election, until: datetime.datetime, now: datetime.datetime) -> Fault:
     return Fault(
         None,
-        f"the vote ends {times.time_in_words(until)}, and by the clock of this computer it is {times.minute_in_words(now, until.tzinfo)}",
-        f"close after that time, or now with {election.command('close', '--early')} (the result page says so)",
+        say(
+            "the vote ends {until}, and by the clock of this computer it is {now}",
+            say_time(until),
+            times.minute_in_words(now, until.tzinfo, SPOKEN.get()),
+        ),
+        say(
+            "close after that time, or now with {close} (the result page says so)",
+            election.command("close", "--early"),
+        ),
     )
 
 

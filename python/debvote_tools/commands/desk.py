@@ -17,6 +17,7 @@ from debvote_tools.cli.console import (
     asked_for,
     is_typed,
     odd_sign,
+    say,
     shown_line,
     shown_text,
     tell,
@@ -32,13 +33,13 @@ from debvote_tools.inbox.vote import CheckedLine, Vote, change_words, summary
 from debvote_tools.outbox.steps import tell_next
 from debvote_tools.poll.plain_names import alike
 from debvote_tools.text.ballots import Ballot
-from debvote_tools.text.language import ENGLISH
+from debvote_tools.text.language import ENGLISH, SPOKEN, marked
 from debvote_tools.text.motions import Words
 
 QUIT = b"q"
 # enters what does not count: a yes comes by habit
 ENTER = b"enter"
-NOT_ENTERED = "It was not entered."
+NOT_ENTERED = marked("It was not entered.")
 
 # in place of a line that is no ballot here
 NO_LINE = b"-"
@@ -117,7 +118,7 @@ class Desk:
         return self.names.words if self.vote.label else self.vote.names.words
 
     def next_typed(self) -> bytes | None:
-        answer = self.typed or typed("Ballot: ", "ballot")
+        answer = self.typed or typed(f"{say('Ballot')}: ", "ballot")
         self.typed = None
         return answer
 
@@ -197,13 +198,13 @@ class Casting(entering.Entry):
 
     def declined(self, answer: bool | None) -> None:
         self.desk.is_over = answer is None
-        tell(*([] if answer is None else [NOT_ENTERED]))
+        tell(*([] if answer is None else [say(NOT_ENTERED)]))
 
     def words(self, numbers: range, replies: Sequence[str]) -> Iterator[str]:
         self.desk.replies += replies
         is_told = bool(self.desk.notes)
         election = self.vote.election
-        self.desk.notes = entering.late_notes(election, election.history(), "what is entered")
+        self.desk.notes = entering.late_notes(election, election.history(), say("what is entered"))
         # the end may pass while a desk is open; of a late line its reply says so
         if not (is_told or self.is_late):
             yield from self.desk.notes
@@ -274,7 +275,7 @@ def desk(election: Election, arguments: Arguments) -> None:
     name = None if arguments.name is None else name_of_desk(arguments.name)
     desk = Desk(vote, name, arguments.came_before_close, arguments.force)
     history = election.history()
-    desk.notes = entering.late_notes(election, history, "what is entered")
+    desk.notes = entering.late_notes(election, history, say("what is entered"))
     tell(*desk.notes)
     if desk.vote.is_signed:
         tell(
@@ -286,7 +287,7 @@ def desk(election: Election, arguments: Arguments) -> None:
         cast(desk)
     except KeyboardInterrupt:
         tell("")
-    tell(f"This desk has entered {summary(desk.replies)}.")
+    tell(say("This desk has entered {lines}.", summary(desk.replies)))
     tell_next(election)
 
 
@@ -352,20 +353,23 @@ def at_terminal(desk: Desk) -> None:
         if vote.poll is None or vote.poll is poll:
             tell(*([f"{label} {poll.name}"] if label else []))
             tell(*(f"  {number} {name}" for number, name in enumerate(poll.names, start=1)))
-    order = "then a rank for each option in this order"
+    order = say("then a rank for each option in this order")
     if vote.poll is None:
-        order = "then for each question that is answered its label, and a rank for each option in this order"
+        order = say(
+            "then for each question that is answered its label, and a rank for each option in this order"
+        )
+    who = say("the code") if vote.has_codes else say("the elector")
     tell(
-        f"{vote.right_words()} q ends."
+        f"{vote.right_words()} {say('q ends.')}"
         if vote.has_tellers
-        else f"Type a ballot as {vote.right_line} ({'the code' if vote.has_codes else 'the elector'}, {order}); q ends."
+        else f"{say('Type a ballot as {line}', vote.right_line)} ({who}, {order}); {say('q ends.')}"
     )
     if words := desk.answer_in_letters():
-        tell(f"In place of the ranks of a motion: {', '.join(words)}.")
+        tell(f"{say('In place of the ranks of a motion')}: {', '.join(words)}.")
     while not desk.is_over and (answer := desk.next_typed()) is not None:
         line = next(iter(desk.lines_of(answer)), None)
         if line is None or line.is_empty:
-            tell("Type a ballot, or q to end.")
+            tell(say("Type a ballot, or q to end."))
         elif line.repaired.lower() == QUIT:
             return
         else:
@@ -375,12 +379,12 @@ def at_terminal(desk: Desk) -> None:
 def ask_and_cast(desk: Desk, line: Line) -> None:
     """Shows a ballot, and casts it on a yes."""
     if (meant := completed(desk, line)) is None:
-        tell(NOT_ENTERED)
+        tell(say(NOT_ENTERED))
         return
     checked = desk.vote.checked_lines([meant])
     for ballot in checked:
         if not ballot.can_be_entered:
-            tell(desk.vote.why_not_entered(ballot), NOT_ENTERED)
+            tell(desk.vote.why_not_entered(ballot), say(NOT_ENTERED))
             return
     [elector] = desk.vote.electors_of([checked[0].as_entered])
     desk.enter(checked, elector, asks=True)
@@ -431,12 +435,13 @@ def why_no_label(desk: Desk, line: Line, name: str, electors: Sequence[Elector])
 def chosen_of(electors: Sequence[Elector], name: str) -> Elector | None:
     """The one elector who is meant by a part of a name, or the one of several who is chosen."""
     if len(electors) == 1:
-        tell(f"`{name}` was completed to `{electors[0].name}`")
+        tell(say("`{part}` was completed to `{name}`", name, electors[0].name))
         return electors[0]
-    tell(f"`{name}` is part of {len(electors)} names:")
+    tell(say("`{part}` is part of {names} names:", name, len(electors)))
     for place, elector in enumerate(electors[:MAX_NAMES], start=1):
         tell(f"  {place} {elector.name} ({shown_text(elector.who)})")
-    answer = (typed("Type the number of one, or n for none: ", "choice") or b"").strip()
+    asked = f"{say('Type the number of one, or n for none:')} "
+    answer = (typed(asked, "choice") or b"").strip()
     number = int(answer) if answer.isdigit() else 0
     return electors[number - 1] if 0 < number <= len(electors[:MAX_NAMES]) else None
 
@@ -463,17 +468,18 @@ def question(
         for line in lines:
             if finding := line.lasting:
                 refused = f"{shown_line(line.as_entered)}: {finding.word}: {finding.hint}"
-                shown += [f"It would be refused: {refused}", desk.vote.right_words()]
+                shown += [f"{say('It would be refused')}: {refused}", desk.vote.right_words()]
             else:
                 shown.append(desk.vote.in_words(line))
     ballots = [line for line in lines if line.is_ballot]
     if ballots and is_late:
-        shown.append("It is late, and will not count.")
+        shown.append(say("It is late, and will not count."))
     elif ballots and elector is not None:
         shown += earlier_words(desk.vote, ballots[0].ballot, elector)
     if ballots == lines:
-        return shown, "Enter it?"
-    return shown, "What is refused does not count. Type the line anew, or enter to enter it so: "
+        return shown, say("Enter it?")
+    anew = say("What is refused does not count. Type the line anew, or enter to enter it so:")
+    return shown, f"{anew} "
 
 
 def earlier_words(vote: Vote, ballot: Ballot, elector: int) -> Iterator[str]:
@@ -482,7 +488,8 @@ def earlier_words(vote: Vote, ballot: Ballot, elector: int) -> Iterator[str]:
     earlier = Ballot(f"{name} {queries.what_counts(vote.book, {elector}).get(name, '')}")
     stays = earlier.without(ballot.ranks)
     if replaced := earlier.without(stays.ranks).answers:
-        yield vote.with_answers(f"{name} has a ballot, which will be replaced", replaced)
+        yield vote.with_answers(say("{name} has a ballot, which will be replaced", name), replaced)
     if stays.ranks:
-        words = f"The earlier answers of {name} to {ENGLISH.joined(sorted(stays.ranks))} stay"
+        others = SPOKEN.get().joined(sorted(stays.ranks))
+        words = say("The earlier answers of {name} to {questions} stay", name, others)
         yield vote.with_answers(words, stays.answers)

@@ -7,7 +7,7 @@ import re
 from debvote_tools.book import queries
 from debvote_tools.call.tellers import are_all_opened, last_ballots
 from debvote_tools.cli.arguments import Options, flag, positional
-from debvote_tools.cli.console import demand_yes, tell
+from debvote_tools.cli.console import demand_yes, say, tell
 from debvote_tools.cli.faults import bad_words
 from debvote_tools.election import CALL, LETTERS, PRIVATE, RESULT, Election
 from debvote_tools.files import whole_folder, write_whole
@@ -32,7 +32,7 @@ def export(election: Election, arguments: Arguments) -> None:
     target_folder = pathlib.Path(arguments.target_folder)
     demand_new(election, target_folder, "folder")
     if not arguments.yes and election.sealed().is_aliased:
-        demand_yes("Write who voted what?", "this writes who voted what into files")
+        demand_yes(say("Write who voted what?"), "this writes who voted what into files")
     files = exported(election)
     with whole_folder(target_folder) as folder:
         (folder / "came").mkdir(mode=0o700)

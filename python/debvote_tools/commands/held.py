@@ -19,8 +19,10 @@ from debvote_tools.cli.console import (
     is_all_seen,
     is_terminal,
     private,
+    say,
     shown_line,
     tell,
+    wait_words,
 )
 from debvote_tools.cli.faults import Fault, bad_words, kept_in, stop_at
 from debvote_tools.election import Election, History
@@ -40,15 +42,15 @@ from debvote_tools.outbox.steps import Step, next_line, what_next
 from debvote_tools.inbox.reasons import for_secretary
 from debvote_tools.inbox.rules import LetterCase, LetterOutcome, why_other_mark
 from debvote_tools.inbox.stopping import other_votes_words
-from debvote_tools.inbox.taking import LetterEntry, envelope_of
+from debvote_tools.inbox.taking import LetterEntry, enter_words, envelope_of
 from debvote_tools.inbox.vote import Vote
 from debvote_tools.outbox.words import Composer
 from debvote_tools.text.ballots import Ballot
-from debvote_tools.text.language import ENGLISH
+from debvote_tools.text.language import ENGLISH, marked
 
 # what --force is for
 NOT_TIED, VOTED_SINCE = ("not-tied", "voted-since")
-FORCE = "if this ballot must count, repeat it with --force {}"
+FORCE = marked("if this ballot must count, repeat it with --force {why}")
 
 # in characters: a shorter line within a letter of ours may be written by its sender
 SHORTEST_OF_OURS = 20
@@ -129,13 +131,13 @@ def next_words(
     """How many letters wait, and what is done with the first, which may be shown already."""
     due = what_next(election, election.history())
     if not pending:
-        yield "No letter waits."
+        yield say("No letter waits.")
         yield next_line(election, due)
         return
     waiting = [letter for letter in shown if letter.is_pending]
     command = election.command("held", str((waiting or pending)[0].number))
     words = f"{command} {'with' if waiting else 'shows one;'} --enter enters its ballot, --as LINE the ballot that you type, --set-aside sets it aside"
-    yield f"{letter_words.wait_words(len(pending))}."
+    yield f"{wait_words(len(pending))}."
     # what has come too late may wait
     is_next = due[0].step is Step.HELD
     yield from [f"Next: {words}"] if is_next else [f"{words}.", next_line(election, due)]
@@ -229,7 +231,7 @@ def what_is_decided(vote: Vote, arguments: Arguments) -> Change:
 
 # ---- entering
 # what is asked first of a letter that says more
-MORE = "There is more in it than a ballot. "
+MORE = marked("There is more in it than a ballot.")
 
 
 class Chosen(NamedTuple):
@@ -314,12 +316,12 @@ def entry_of(
         )
     numbers = [one.letter.number for one in chosen]
     ballots = [(one.letter, line) for one in chosen for line in one.lines]
-    more = "" if all(one.letter.is_bare_ballot for one in chosen) else MORE
+    more = "" if all(one.letter.is_bare_ballot for one in chosen) else f"{say(MORE)} "
     return LetterEntry(
         "enter",
         {"letters": numbers, "lines": [line.number for _, line in ballots if line.number]},
         shown=[row for one in chosen for row in shown(vote, one)],
-        question=terminal_question(f"{more}Enter {count_of(len(ballots), 'ballot')}?", is_agreed),
+        question=terminal_question(f"{more}{enter_words(len(ballots))}", is_agreed),
         letters=dict.fromkeys(numbers, queries.ENTERED),
         vote=vote,
         envelopes=[envelope_of(letter, line.ballot) for letter, line in ballots],
@@ -486,14 +488,14 @@ def why_not_unforced(chosen: Sequence[Chosen], forced: Set[str]) -> Iterator[Fau
     for letter, lines in chosen if NOT_TIED not in forced else ():
         if why_other := why_other_mark(letter):
             words, _, advice = for_secretary(why_other).partition("; ")
-            yield Fault(name_of(letter), words, f"{advice}; {FORCE.format(NOT_TIED)}")
+            yield Fault(name_of(letter), words.rstrip(), f"{advice}; {say(FORCE, NOT_TIED)}")
         for line in lines:
             elector = line.ballot.elector
             if not (letter.is_tied(elector) or (line.number and letter.is_of_couple)):
                 yield Fault(
                     name_of(letter),
-                    f"its sender and its subject do not show that it is of {elector}",
-                    f"check who sent it; {FORCE.format(NOT_TIED)}",
+                    say("its sender and its subject do not show that it is of {name}", elector),
+                    f"{say('check who sent it')}; {say(FORCE, NOT_TIED)}",
                 )
 
 
@@ -516,7 +518,7 @@ def why_not_beside(
                 )
                 yield Fault(name_of(letter), words, f"enter the others: {cure}")
             elif VOTED_SINCE not in forced and (words := why_unsure(letter, beside, ballot)):
-                yield Fault(name_of(letter), words, FORCE.format(VOTED_SINCE))
+                yield Fault(name_of(letter), words, say(FORCE, VOTED_SINCE))
         for line in lines:
             by_elector[line.ballot.elector].add(ballot_in(letter, line.ballot))
 
@@ -525,12 +527,12 @@ def why_unsure(letter: LetterCase, beside: ElectorBallots, ballot: TimedBallot) 
     """Why a ballot beside others of its elector is entered by force alone; empty if it is not."""
     has_voted = beside.has_voted_since(ballot)
     if has_voted:
-        return "its elector has voted since"
+        return say("its elector has voted since")
     if has_voted is not None:
         why = "the clock of the web host was off" if letter.time else "nobody knows when it arrived"
         return f"its elector may have voted since, as {why}"
     if beside.has_other_at_once(ballot):
-        return "another ballot of its elector has the same time"
+        return say("another ballot of its elector has the same time")
     return ""
 
 

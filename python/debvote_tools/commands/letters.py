@@ -14,14 +14,17 @@ from debvote_tools.cli.console import (
     act_time,
     bar,
     count_of,
+    count_of_letters,
     is_terminal,
     is_yes,
     listed,
+    say,
     shown_text,
     shows,
     tell,
     tell_as_it_is,
     typed_unseen,
+    until_looked_at,
 )
 from debvote_tools.cli.faults import Fault, Status, bad_words, kept_in, stop_at
 from debvote_tools.election import LETTERS, Election, History
@@ -36,6 +39,7 @@ from debvote_tools.outbox.steps import Step, remembered, tell_next, words_of
 from debvote_tools.outbox.words import SUBJECTS
 from debvote_tools.poll.announced import demand_mail_address, demand_web_address
 from debvote_tools.text import times
+from debvote_tools.text.language import marked
 
 # how many electors without an address are named
 MOST = 20
@@ -43,9 +47,9 @@ MOST = 20
 BAR = 40
 # the acts beside which letters go on: what comes is told by later ones
 COMING = "letters, add, desk, enter, set aside, put back, letters out, letter sent".split(", ")
-ALL_TAKEN = "There is no letter to send: the server has taken all that are due."
+ALL_TAKEN = marked("There is no letter to send: the server has taken all that are due.")
 # what is said of letters with link and code
-CODES = "Who reads a letter with its code can vote in that name, and finds the alias"
+CODES = marked("Who reads a letter with its code can vote in that name, and finds the alias")
 
 
 class Arguments(Acting):
@@ -119,7 +123,7 @@ def letters_of_kind(
             has_codes=arguments.codes,
         )
         if not (arguments.yes or is_right_time(due)):
-            tell("Nobody was reminded.")
+            tell(say("Nobody was reminded."))
             return Status.DONE
         place = folder / str(due.for_act)
         written = write(due, place)
@@ -154,7 +158,7 @@ def write_ready(election: Election, kind: str) -> list[str]:
         due = letters_due(election, kind, sender, is_sending=False, because=None)
         place = folder / str(due.for_act)
         written = write(due, place) if due.new else 0
-    ready = [f"Ready: {count_of(written, 'letter')}, {place}"] if written else []
+    ready = [f"{say('Ready')}: {count_of_letters(written)}, {place}"] if written else []
     return [*notes_on(due, {place: due.new}), *ready]
 
 
@@ -200,7 +204,7 @@ def send_ready(election: Election, sender: str, server: Server | None) -> Status
         tell(*(f"{kind}: {line}" for line in sent_words(due, tried)))
         status = max(status, exit_status(due, tried))
     if not (is_sent or faults or words_of(election, Step.RECEIPTS, Step.LETTERS)):
-        tell(ALL_TAKEN)
+        tell(say(ALL_TAKEN))
     tell_end(election)
     stop_at(faults)
     return status
@@ -228,7 +232,7 @@ def demand_codes(history: History, arguments: Arguments) -> None:
         raise Fault("--codes", "in a vote with tellers nobody has a code", "leave it out")
     if not history.is_secret_by_click:
         raise bad_words("--codes", "only in a secret vote with a web box", "leave it out")
-    if not (arguments.yes or is_agreed(CODES, "write them")):
+    if not (arguments.yes or is_agreed(say(CODES), marked("write them"))):
         raise Fault(None, "you did not agree to codes in letters", "give them on slips")
 
 
@@ -236,7 +240,7 @@ def is_right_time(due: LettersDue) -> bool:
     """Whether no others were reminded within a day, or somebody agrees to remind again."""
     before = due.reminded
     return before is None or is_agreed(
-        f"Reminders were written at {act_time(before)}", "remind again"
+        say("Reminders were written at {time}", act_time(before)), marked("remind again")
     )
 
 
@@ -244,7 +248,7 @@ def is_agreed(warning: str, task: str) -> bool:
     """Whether letters are to be written in spite of a warning. Stops where nobody can be asked."""
     if not is_terminal():
         raise Fault(None, warning, f"if it is right, {task} with --yes")
-    return bool(is_yes(f"{warning}. {task.capitalize()}?"))
+    return bool(is_yes(f"{warning}. {say(task).capitalize()}?"))
 
 
 # ---- what is told
@@ -256,15 +260,20 @@ def notes_on(due: LettersDue, by_place: ByPlace) -> Iterator[str]:
     """Who gets a letter on paper, and what waits."""
     for folder, letters in by_place.items():
         if names := [due.electors[letter.elector].name for letter in letters if not letter.address]:
-            yield f"Without an address: {listed(names, MOST)}. Print {folder}/{letter_folder.TO_PRINT}."
+            file = folder / letter_folder.TO_PRINT
+            yield say("Without an address: {names}. Print {file}.", listed(names, MOST), file)
             if due.kind == "call" and not due.composer.call_data.letter_text:
                 tellers = due.composer.call_data.tellers
-                unsaid = "slips are given out" if tellers else "a ballot on paper goes"
-                yield f"Note: these letters do not say where {unsaid}. Say it in letter.txt, run {due.election.command('call')}, and write them again."
+                unsaid = say("slips are given out") if tellers else say("a ballot on paper goes")
+                yield say(
+                    "Note: these letters do not say where {unsaid}. Say it in letter.txt, run {call}, and write them again.",
+                    unsaid,
+                    due.election.command("call"),
+                )
     if due.in_no_receipt:
         yield f"No receipt is about these letters that wait, since no elector alone has the sender's address: {listed(list(map(str, due.in_no_receipt)), MOST)}"
     if due.letters_pending:
-        yield f"{count_of(due.letters_pending, 'letter waits', 'letters wait')} until you have looked at them: {due.election.command('held')}"
+        yield until_looked_at(due.letters_pending, due.election.command("held"))
 
 
 def written_words(
@@ -275,22 +284,25 @@ def written_words(
             yield f"Wrote {count_of(number, 'earlier letter')}, since the folder was not there: {folder}"
     if written:
         new = sum(bool(letter.address) for letter in due.new)
-        of_them = "" if new == written else f", {new or 'none'} of them new"
-        yield f"Wrote {count_of(written, 'letter')}{of_them}: {place}"
+        of_them = f", {say('{new} of them new', new) if new else say('none of them new')}"
+        yield f"{say('Wrote {letters}', count_of_letters(written))}{'' if new == written else of_them}: {place}"
+    elif lost:
+        yield say("No other letter is to be sent.")
     else:
-        yield "No other letter is to be sent." if lost else "There is no letter to send."
+        yield say("There is no letter to send.")
 
 
 def sent_words(due: LettersDue, tried: Sequence[OutgoingLetter]) -> Iterator[str]:
     refused = [letter for letter in tried if letter.state != TAKEN]
     if tried:
-        yield f"Sent {len(tried) - len(refused)} of {count_of(len(tried), 'letter')}."
+        taken = len(tried) - len(refused)
+        yield say("Sent {taken} of {letters}.", taken, count_of_letters(len(tried)))
     else:
-        yield ALL_TAKEN
+        yield say(ALL_TAKEN)
     for letter in refused:
         yield f"Refused: {due.electors[letter.elector].name}, {letter.address}: {shown_text(letter.reply)}"
     if any(map(due.can_be_sent, refused)):
-        yield "Try again in a quarter of an hour, or with corrected addresses."
+        yield say("Try again in a quarter of an hour, or with corrected addresses.")
 
 
 def tell_end(election: Election) -> None:
@@ -377,7 +389,9 @@ def password_of(user: str, server: Server, file: str | None) -> str:
             f"the password of {shown_text(user)} can't be asked here",
             "give --password-file FILE, or run the command at a terminal",
         )
-    return typed_unseen(f"The password of {shown_text(user)} on {server.host}: ")
+    return typed_unseen(
+        f"{say('The password of {user} on {server}', shown_text(user), server.host)}: "
+    )
 
 
 # ---- the acts

@@ -7,7 +7,7 @@ from collections.abc import Iterator, Sequence
 
 from debvote_tools.book.book import DoneAct
 from debvote_tools.cli.arguments import Options, flag
-from debvote_tools.cli.console import act_time, count_of, shown_text, tell
+from debvote_tools.cli.console import act_time, count_of, say, shown_text, tell
 from debvote_tools.election import Election
 
 # the random line of a close, which stays in the book: with it few ballots can be guessed from the
@@ -35,7 +35,7 @@ def log(election: Election, arguments: Arguments) -> None:
     if arguments.json:
         tell(*map(as_json, acts))
     else:
-        tell(*table(acts), f"The last digest is {acts[-1].digest}")
+        tell(*table(acts), say("The last digest is {digest}", acts[-1].digest))
 
 
 def as_json(act: DoneAct) -> str:
@@ -72,12 +72,10 @@ def facts_of(act: DoneAct) -> str:
     """The name of an act, and what it is about."""
     facts = ((key, act.detail.get(key)) for key in SHOWN)
     said = [fact_in_words(key, value) for key, value in facts if value not in (None, False, [])]
-    return ", ".join([act.name, *said])
+    return ", ".join([say(act.name), *said])
 
 
 def fact_in_words(key: str, value: object) -> str:
     if value is True or isinstance(value, dict):
-        return key
-    return (
-        f"{key} {shown_text(' '.join(map(str, value)) if isinstance(value, list) else str(value))}"
-    )
+        return say(key)
+    return f"{say(key)} {shown_text(' '.join(map(str, value)) if isinstance(value, list) else str(value))}"

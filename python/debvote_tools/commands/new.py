@@ -10,7 +10,7 @@ from debvote_tools.book import book
 from debvote_tools.call.draft import NEW_POLL
 from debvote_tools.call.members import NEW_MEMBERS
 from debvote_tools.cli.arguments import Options, option, positional
-from debvote_tools.cli.console import tell
+from debvote_tools.cli.console import say, tell
 from debvote_tools.cli.faults import bad_words
 from debvote_tools.election import MEMBERS_FILE, POLLS, Election
 from debvote_tools.files import uninterrupted, whole_folder, write_whole
@@ -57,10 +57,16 @@ def new(election: Election, arguments: Arguments) -> None:
     with uninterrupted():
         make(folder, arguments.language, polls)
         tell(
-            f"Made the folder {folder} with {files} and {MEMBERS_FILE}. Keep it on a disk of this computer, not in a shared or synced folder."
+            say(
+                "Made the folder {folder} with {files} and {members}. Keep it on a disk of this computer, not in a shared or synced folder.",
+                folder,
+                files,
+                MEMBERS_FILE,
+            )
         )
         if arguments.language != ENGLISH.code:
-            tell(f"Pages and letters for electors will be in {LANGUAGES[arguments.language]}.")
+            language = say(LANGUAGES[arguments.language])
+            tell(say("Pages and letters for electors will be in {language}.", language))
         tell(f"Next: cd {shlex.quote(str(folder))}, {draft_words(files, 'debvote-election roll')}")
 
 

@@ -11,7 +11,7 @@ from debvote_tools.book.change import Change
 from debvote_tools.call.box import SCRIPT, records_file
 from debvote_tools.call.draft import texts_of
 from debvote_tools.cli.arguments import Acting, demand_reason, flag, option, positional
-from debvote_tools.cli.console import act_time, demand_yes, odd_sign, tell, tell_aside
+from debvote_tools.cli.console import act_time, demand_yes, odd_sign, say, tell, tell_aside
 from debvote_tools.cli.faults import Fault, bad_words, kept_in, stop_at
 from debvote_tools.election import (
     BOX_KEY,
@@ -226,10 +226,10 @@ def tell_published(
     election: Election, outcomes: Mapping[str, Outcome], target: pathlib.Path, *, is_new: bool
 ) -> None:
     """Tells what was published, writes its letters, and tells what comes next."""
-    as_before = "" if is_new else ", as it was published before; nothing was changed in the book"
+    as_before = f", {say('as it was published before; nothing was changed in the book')}"
     for label, outcome in outcomes.items():
         tell(f"{label and f'{label}: '}{outcome.sheet.last_line}", outcome.verified)
-    tell(f"Made the folder {target}{as_before}.")
+    tell(f"{say('Made the folder {folder}', target)}{'' if is_new else as_before}.")
     history = election.history()
     if history.is_closed and history.announced("at"):
         # what writes letters takes a while to be imported
@@ -383,6 +383,6 @@ def agreed_in_secret(
     agreed = publication.agreed_texts(history, texts, is_agreed=is_agreed)
     compared = dict.fromkeys(name for facts in questions for name in facts.compared)
     if compared and not is_agreed:
-        why = f"a comparison with the earlier result shows how these voted: {', '.join(compared)}"
-        demand_yes(f"Publish it, although {why}?", why)
+        why = f"{say('a comparison with the earlier result shows how these voted')}: {', '.join(compared)}"
+        demand_yes(say("Publish it, although {why}?", why), why)
     return agreed

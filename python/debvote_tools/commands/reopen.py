@@ -6,7 +6,7 @@ from debvote_tools.book import queries
 from debvote_tools.book.change import Change, carried_out, terminal_question
 from debvote_tools.cli.arguments import Acting, demand_reason, flag, option
 from debvote_tools.call.tellers import demand_openable
-from debvote_tools.cli.console import act_time, is_terminal, is_yes, listed, shown_line, tell
+from debvote_tools.cli.console import act_time, is_terminal, is_yes, listed, say, shown_line, tell
 from debvote_tools.cli.faults import Fault
 from debvote_tools.election import LETTERS, Election, History
 from debvote_tools.files import OWN, write_made
@@ -32,10 +32,17 @@ def reopen(election: Election, arguments: Arguments) -> None:
     carried_out(book, lambda: what_is_reopened(election, arguments, because))
     history = election.history()
     tell(
-        f"The vote is open again; the close at {act_time(history.closes[-1].time)} stays in the log and on the result page.",
+        say(
+            "The vote is open again; the close at {time} stays in the log and on the result page.",
+            act_time(history.closes[-1].time),
+        ),
         *late_words(Vote(election), history),
-        "Of new ballots only those that arrived before the first close count: add and desk ask.",
-        "What is late stays late: if it arrived before, enter it again, with add FILE --came-before-close yes or at a desk.",
+        say(
+            "Of new ballots only those that arrived before the first close count: add and desk ask."
+        ),
+        say(
+            "What is late stays late: if it arrived before, enter it again, with add FILE --came-before-close yes or at a desk."
+        ),
     )
     if history.tellers:
         # what writes letters takes a while to be imported
@@ -54,10 +61,11 @@ def what_is_reopened(election: Election, arguments: Arguments, because: str) -> 
     demand_closed(election, history)
     if history.tellers:
         demand_unopened(history)
-    told = "Everybody will read this reason."
+    told = say("Everybody will read this reason.")
     if election.questions.is_secret:
-        told = "Only the log tells this reason."
-    asked = terminal_question(f"Open the vote again, because: {because}? {told}", arguments.yes)
+        told = say("Only the log tells this reason.")
+    question = say("Open the vote again, because: {because}?", because)
+    asked = terminal_question(f"{question} {told}", arguments.yes)
     return Change("reopen", {"because": because}, question=asked)
 
 
@@ -93,7 +101,7 @@ def demand_unopened(history: History) -> None:
     lists that are opened the difference shows how somebody voted. No option answers it.
     """
     first = next(iter(history.tellers))
-    question = f"Does {first} say that list 0 was not opened?"
+    question = say("Does {teller} say that list 0 was not opened?", first)
     if not (is_terminal() and is_yes(question)):
         words = f"nobody says that {first} has not opened list 0"
         raise Fault(

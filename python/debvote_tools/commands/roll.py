@@ -9,7 +9,7 @@ from debvote_tools.book.change import Change
 from debvote_tools.call.box import SCRIPT, box_files
 from debvote_tools.call.members import Member, Roll, elector_in_words, label_of
 from debvote_tools.cli.arguments import Acting, flag, option
-from debvote_tools.cli.console import count_of, is_terminal, is_yes, listed, shown_text, tell
+from debvote_tools.cli.console import is_terminal, is_yes, listed, say, say_number, shown_text, tell
 from debvote_tools.cli.faults import Fault, bad_words
 from debvote_tools.commands.check import MAX_NAMED, is_kept, read_roll
 from debvote_tools.commands.codes import CODES, SLIPS, write_slips
@@ -21,12 +21,12 @@ from debvote_tools.outbox.steps import tell_next
 from debvote_tools.poll.plain_names import ELECTOR_LIMIT, alike, similar_names
 from debvote_tools.poll.sealed import new_own_mark
 from debvote_tools.text.addresses import address_in, address_key
-from debvote_tools.text.language import Language
+from debvote_tools.text.language import SPOKEN, Language, marked
 
 # `Eve & Dan`, `Eve und Dan`, `Eve/Dan`
 SEVERAL_PEOPLE = re.compile(r"\w ?[&+/] ?\w|\w (?:and|und|et) \w", re.IGNORECASE)
 
-# what may be wrong with the list: words, the names that they are about, and words after these
+# what may be wrong with the list: words, the names that they are about, and a sentence after these
 Note = tuple[str, list[str], str]
 
 
@@ -107,7 +107,7 @@ def change_addresses(
         # a run that was killed may not have made them
         if history.since_call("addresses"):
             make_anew(election, history)
-        tell("Nothing was changed.")
+        tell(say("Nothing was changed."))
         return
     # what judges letters takes a while to be imported
     from debvote_tools.inbox import letter_words
@@ -150,7 +150,7 @@ def make_anew(election: Election, history: History) -> None:
 
 
 def is_agreed(member: Member, words: str) -> bool:
-    question = f"{label_of(member)}: {words}. Is that right?"
+    question = f"{label_of(member)}: {words}. {say('Is that right?')}"
     if not is_terminal():
         raise Fault(None, question, "run it at a terminal, or with --yes")
     return bool(is_yes(question))
@@ -160,8 +160,9 @@ def changes_in_words(member: Member, went: Mapping[str, Sequence[str]]) -> str:
     """What changes of an elector. `went` are the addresses to which the call with their code
     went.
     """
+    none = say("(none)")
     words = [
-        f"{what} {before or '(none)'} becomes {now or '(none)'}"
+        say("{what} {before} becomes {now}", say(what), before or none, now or none)
         for what, (before, now) in member.changes.items()
     ]
     before, _ = member.changes.get("address", ("", ""))
@@ -180,18 +181,31 @@ def changed_words(election: Election, changed: Mapping[Member, str]) -> Iterator
         yield f"{member.name}: {words}"
     if election.questions.is_secret and not election.history().tellers:
         yield f"Made {SLIPS} and {CODES} in {election.path(PRIVATE)} anew: a new address has a new mark."
-    yield f"{count_of(len(changed), 'elector')} changed; the result page says how many."
+    yield say_number(
+        "{number} elector changed; the result page says how many.",
+        "{number} electors changed; the result page says how many.",
+        len(changed),
+    )
 
 
 def roll_in_words(roll: Roll, language: Language) -> Iterator[str]:
     electors = roll.electors
-    yield f"{count_of(len(electors), 'elector')}, each with the name on the roll:"
+    yield say_number(
+        "{number} elector, each with the name on the roll:",
+        "{number} electors, each with the name on the roll:",
+        len(electors),
+    )
     yield from map(elector_in_words, electors)
     if proposed := sum(bool(member.proposal) for member in electors):
-        yield f"{count_of(proposed, 'name was', 'names were')} proposed. To change a name, write it into a column `name` of {MEMBERS_FILE}, and run this again."
+        yield say_number(
+            "{number} name was proposed. To change a name, write it into a column `name` of {file}, and run this again.",
+            "{number} names were proposed. To change a name, write it into a column `name` of {file}, and run this again.",
+            proposed,
+            MEMBERS_FILE,
+        )
     for words, names, after in notes_on(electors, language):
         if names:
-            yield f"{words}: {listed(names, MAX_NAMED)}{after}"
+            yield f"{words}: {listed(names, MAX_NAMED)}{after and f'. {say(after)}'}"
     for gone in roll.gone:
         yield f"No longer on the list: {label_of(gone)}"
 
@@ -203,28 +217,33 @@ def notes_on(electors: Sequence[Member], language: Language) -> Iterator[Note]:
         for member in electors
         for key in dict.fromkeys(map(address_key, member.addresses))
     )
-    is_one = ". Is that one person?"
+    is_one = marked("Is that one person?")
     for address, names in several(by_address).items():
-        yield f"Note: several electors have the address {address}", names, is_one
+        yield say("Note: several electors have the address {address}", address), names, is_one
     for names in several((alike(member.who), member.name) for member in electors).values():
-        yield "Note: these real names look alike", names, is_one
+        yield say("Note: these real names look alike"), names, is_one
     yield from notes_on_names(electors, language)
     without = [member.name for member in electors if not member.addresses]
-    yield "Without an address (letters in their names wait, letters to them are printed)", without, ""
+    words = say("Without an address (letters in their names wait, letters to them are printed)")
+    yield words, without, ""
     unsent = [
         member.name for member in electors if member.addresses and not address_in(member.addresses)
     ]
-    yield "Without an address that every mail server takes (letters to them are printed)", unsent, ""
+    words = say("Without an address that every mail server takes (letters to them are printed)")
+    yield words, unsent, ""
 
 
 def notes_on_names(electors: Sequence[Member], language: Language) -> Iterator[Note]:
     cut = [label_of(member) for member in electors if not member.name.startswith(member.proposal)]
-    yield f"Note: a name has at most {ELECTOR_LIMIT} characters, so these were cut", cut, ""
-    pairs = map(" and ".join, similar_names(member.name for member in electors))
-    yield "Note: these names are easily mistaken for each other", list(pairs), ""
+    words = say("Note: a name has at most {most} characters, so these were cut", ELECTOR_LIMIT)
+    yield words, cut, ""
+    pairs = map(SPOKEN.get().joined, similar_names(member.name for member in electors))
+    yield say("Note: these names are easily mistaken for each other"), list(pairs), ""
     real_names = {member.name: member.who for member in electors}
     taken = Names(frozenset(real_names), language.code, real_names, 0, {}).real_names_of_others
     theirs = [label_of(member) for member in electors if member.name in taken]
-    yield "Note: these names on the roll are the real name of somebody else", theirs, ". Give them other names."
+    words = say("Note: these names on the roll are the real name of somebody else")
+    yield words, theirs, marked("Give them other names.")
     couples = [label_of(member) for member in electors if SEVERAL_PEOPLE.search(member.who)]
-    yield "Note: these look like several people, who have one ballot together", couples, ". Give each a line of their own."
+    words = say("Note: these look like several people, who have one ballot together")
+    yield words, couples, marked("Give each a line of their own.")

@@ -10,6 +10,7 @@ from debvote_tools.cli.console import (
     asked_for,
     demand_yes,
     hides,
+    say,
     shown_line,
     shown_text,
     tell,
@@ -18,7 +19,7 @@ from debvote_tools.cli.faults import Fault
 from debvote_tools.election import Election, History
 from debvote_tools.inbox import letter_words
 from debvote_tools.inbox.fates import Fate, fates_of
-from debvote_tools.inbox.vote import IS_CODE, Vote
+from debvote_tools.inbox.vote import IS_CODE, Vote, envelope_words
 from debvote_tools.poll.codes import has_code
 
 
@@ -34,7 +35,8 @@ def show(election: Election, arguments: Arguments) -> None:
     vote = Vote(election)
     elector = elector_named(election, vote, arguments.name)
     if hides() and not arguments.yes:
-        demand_yes(f"Show what {elector.name} voted?", f"this shows what {elector.name} voted")
+        why = f"this shows what {elector.name} voted"
+        demand_yes(say("Show what {name} voted?", elector.name), why)
     history = election.history()
     with asked_for(True):
         who = f": {shown_text(elector.who)} {', '.join(map(shown_text, elector.addresses))}"
@@ -44,19 +46,18 @@ def show(election: Election, arguments: Arguments) -> None:
         came = [fate.envelope for fate in fates if fate.envelope]
         tell(*(f"  {line}" for fate in fates for line in fate_words(vote, history, fate, came)))
         current = queries.what_counts(election.book, {elector.number}).get(elector.name)
-        words = "The current ballot"
+        words = say("The current ballot")
         if current and vote.is_several:
             words += f": {elector.name} {current}"
-        tell(vote.with_answers(words, current) if current else f"{words}: none")
-        for letter in sorted(
-            outgoing.outgoing_letters(election.book, elector=elector.number),
-            key=lambda letter: letter.time,
-        ):
-            where = f"to {letter.address}" if letter.address else "to be printed"
-            reply = f" ({shown_text(letter.reply)})" if letter.reply else ""
-            tell(
-                f"  {letter.kind.removesuffix('s')}, {act_time(letter.time)}, {where}: {letter.state}{reply}"
-            )
+        tell(vote.with_answers(words, current) if current else f"{words}: {say('none')}")
+        letters = outgoing.outgoing_letters(election.book, elector=elector.number)
+        tell(*map(outgoing_words, sorted(letters, key=lambda letter: letter.time)))
+
+
+def outgoing_words(letter: outgoing.OutgoingLetter) -> str:
+    where = say("to {address}", letter.address) if letter.address else say("to be printed")
+    reply = f" ({shown_text(letter.reply)})" if letter.reply else ""
+    return f"  {letter.kind.removesuffix('s')}, {act_time(letter.time)}, {where}: {say(letter.state)}{reply}"
 
 
 def elector_named(election: Election, vote: Vote, name: str) -> queries.Elector:
@@ -93,18 +94,20 @@ def fate_words(vote: Vote, history: History, fate: Fate, came: Sequence[Envelope
                 if later.line == envelope.line and later.number > envelope.number
             )
             marks = [
-                "late",
+                say("late"),
                 *(f"entered again as {later.number}: {later.became}" for later in again),
             ]
-        marks += [f"{label} replaced" for label in fate.replaced]
+        marks += [f"{label} {say('replaced')}" for label in fate.replaced]
         if envelope.struck is not None:
             act = history.act(envelope.struck)
             because = shown_text(str(act.detail.get("because", "")))
-            struck = f"struck by {act.name} at {act_time(act.time)}"
+            struck = (
+                f"{say('struck by {act}', say(act.name))} {say('at {time}', act_time(act.time))}"
+            )
             marks.append(f"{struck}: {because}" if because else struck)
         marked = f" ({'; '.join(marks)})" if marks else ""
-        at_desk = f", at {shown_text(fate.desk)}" if fate.desk else ""
-        words = f"envelope {envelope.number}, {act_time(envelope.time)}{at_desk}{letter_words.sent_words(fate.came_by)}{marked}"
+        at_desk = f", {say('at {desk}', shown_text(fate.desk))}" if fate.desk else ""
+        words = f"{envelope_words([envelope.number])}, {act_time(envelope.time)}{at_desk}{letter_words.sent_words(fate.came_by)}{marked}"
         if fate.answers:
             yield vote.with_answers(words, fate.answers, "    ")
         else:

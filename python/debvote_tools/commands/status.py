@@ -14,13 +14,15 @@ from debvote_tools.cli.console import (
     count_of,
     private,
     quorum_words,
+    say,
+    say_time,
     shown_line,
     tell,
+    until_looked_at,
     wrapped,
 )
 from debvote_tools.cli.faults import Fault, stop_at
 from debvote_tools.election import Election, History
-from debvote_tools.inbox import letter_words
 from debvote_tools.inbox.asked import asked_last, asked_words, with_lost_records
 from debvote_tools.inbox.urn import words_before_close
 from debvote_tools.inbox.stopping import Pending, pending_letters, taken_out_words
@@ -147,20 +149,25 @@ def questions_in(election: Election, history: History, *, has_late: bool) -> Sta
 
 def stage_words(election: Election, history: History, state: State) -> Iterator[str]:
     if history.call is None:
-        yield from ("Call for votes: not made yet", "Closed: not yet")
+        yield say("Call for votes: not made yet")
+        yield f"{say('Closed')}: {say('not yet')}"
         return
     questions = election.questions
-    yield f"Title: {questions.name}"
+    yield f"{say('Title')}: {questions.name}"
     if history.tellers:
         yield f"The vote is secret, and its ballots are sealed to {', '.join(history.tellers)}. Keep the output of this command to yourself."
     elif questions.is_secret:
         yield f"The vote is secret: ballots are published under {'codes' if history.has_codes_on_roll else 'aliases'}. Keep the output of this command to yourself."
     if history.until is not None:
-        yield f"End of the vote: {times.time_in_words(history.until)}{'; that time has passed' if times.now() >= history.until else ''}"
-    yield f"Call for votes: made at {act_time(history.call.time)}"
-    yield f"Closed: {f'at {act_time(history.closes[-1].time)}' if history.is_closed else 'not yet'}"
+        passed = say("that time has passed")
+        yield f"{say('End of the vote')}: {say_time(history.until)}{f'; {passed}' if times.now() >= history.until else ''}"
+    yield say("Call for votes: made at {time}", act_time(history.call.time))
+    closed = say("not yet")
+    if history.is_closed:
+        closed = say("at {time}", act_time(history.closes[-1].time))
+    yield f"{say('Closed')}: {closed}"
     if history.is_reopened:
-        yield f"Reopened: at {act_time(history.named('reopen')[-1].time)}"
+        yield f"{say('Reopened')}: {say('at {time}', act_time(history.named('reopen')[-1].time))}"
     quorums = history.call.detail["quorum_votes"]
     of_each = {
         label: quorum_words(poll.quorum, quorums[label]) for label, poll in questions.items()
@@ -178,42 +185,47 @@ def stage_words(election: Election, history: History, state: State) -> Iterator[
 def state_words(
     election: Election, history: History, state: State, refused: list[Envelope]
 ) -> Iterator[str]:
-    yield f"Lines: {state['lines']} ({state['valid']} valid, {state['refused']} refused)"
+    yield say("Lines: {lines} ({valid} valid, {refused} refused)", **state)
     if state["late"]:
-        yield f"Late, and not counted: {state['late']}"
+        yield say("Late, and not counted: {late}", **state)
     if state["struck"] or state["taken_back"]:
         yield taken_out_words(election, history)
-    yield f"Electors with a valid ballot: {state['voters']} of {state['electors']}"
+    yield say("Electors with a valid ballot: {voters} of {electors}", **state)
     yield from asked_words(history)
     yield from words_before_close(election, history)
     yield from named(
         "Ballots that nobody can open, and no later ones, by the links of", state["lost"]
     )
-    yield from named("Electors without a ballot", state["without_ballot"])
-    # with codes on the roll the lines would tell codes
-    if refused and history.has_codes_on_roll:
-        yield f"Refused: {envelope_words([envelope.number for envelope in refused])}"
-    elif refused:
-        yield f"Refused lines of electors without a ballot to the question, or of nobody known ({len(refused)}):"
-        for envelope in Vote(election).with_reasons_of_now(refused):
-            yield f"  envelope {envelope.number}: {shown_line(envelope.line)}"
-            word, _, why = str(envelope.why_refused).partition(": ")
-            yield f"    {word}: {private(why)}"
+    yield from named(say("Electors without a ballot"), state["without_ballot"])
+    if refused:
+        yield from refused_words(election, history, refused)
     if state["waiting"]:
-        yield f"{letter_words.wait_words(state['waiting'])} until you have looked at them: {election.command('held')}"
+        yield until_looked_at(state["waiting"], election.command("held"))
     if state["stopping"]:
-        stops = "count and publish stop" if history.is_closed else "close stops"
-        yield f"These arrived in time, and {stops} while they wait: {', '.join(map(str, state['stopping']))}"
+        stops = say("count and publish stop") if history.is_closed else say("close stops")
+        yield f"{say('These arrived in time, and {commands} while they wait', stops)}: {', '.join(map(str, state['stopping']))}"
     for reason in dict.fromkeys(state["not_reached"].values()):
         names = [name for name, why in state["not_reached"].items() if why == reason]
         yield from named(f"Not reached by the call: {reason}", names)
     # who has voted knows of the vote
     silent = [name for name in state["printed"] if name in state["without_ballot"]]
-    yield from named("Get the call printed", silent)
-    yield f"Last act: {state['act']}, digest {state['digest']}"
+    yield from named(say("Get the call printed"), silent)
+    yield say("Last act: {act}, digest {digest}", **state)
     first, *others = what_next(election, history)
     yield f"Next: {in_words(election, first)}"
     yield from (f"Then: {in_words(election, one)}" for one in others)
+
+
+def refused_words(election: Election, history: History, refused: list[Envelope]) -> Iterator[str]:
+    # with codes on the roll the lines would tell codes
+    if history.has_codes_on_roll:
+        yield f"{say('Refused')}: {envelope_words([envelope.number for envelope in refused])}"
+        return
+    yield f"{say('Refused lines of electors without a ballot to the question, or of nobody known')} ({len(refused)}):"
+    for envelope in Vote(election).with_reasons_of_now(refused):
+        yield f"  {envelope_words([envelope.number])}: {shown_line(envelope.line)}"
+        word, _, why = str(envelope.why_refused).partition(": ")
+        yield f"    {word}: {private(why)}"
 
 
 def named(what: str, names: list[str] | None) -> Iterator[str]:

@@ -6,14 +6,14 @@ from debvote_tools.book import queries
 from debvote_tools.book.change import Change, carried_out, terminal_question
 from debvote_tools.book.queries import Envelope
 from debvote_tools.cli.arguments import Acting, demand_reason, flag, option, positional
-from debvote_tools.cli.console import act_time, shown_line, tell
+from debvote_tools.cli.console import act_time, say, shown_line, tell
 from debvote_tools.cli.faults import Fault
 from debvote_tools.commands.undo import demand_open
 from debvote_tools.election import Election
 from debvote_tools.inbox import letter_words
 from debvote_tools.inbox.judging import letters_now
 from debvote_tools.inbox.lines import name_in
-from debvote_tools.inbox.vote import Vote
+from debvote_tools.inbox.vote import Vote, envelope_words
 from debvote_tools.outbox.steps import tell_next
 
 # what can be a code of the roll or half of one, as if it was typed with a gap
@@ -38,15 +38,16 @@ def strike(election: Election, arguments: Arguments) -> None:
     judged_before = letters_now(vote)
     change = carried_out(book, lambda: what_is_struck(vote, arguments, because))
     [envelope] = queries.envelopes(book, "envelope = ?", arguments.number)
-    tell(f"Struck {in_words(envelope, vote)}, because: {because}")
+    tell(f"{say('Struck {envelope}', in_words(envelope, vote))}, {say('because')}: {because}")
     if envelope.elector is not None:
         elector = name_in(envelope.line).decode("ascii")
         answers = queries.what_counts(book, {envelope.elector}).get(elector)
-        whose = "that code" if vote.has_codes else elector
-        words = f"Another ballot of {whose} counts"
-        tell(vote.with_answers(words, answers) if answers else f"No ballot of {whose} counts")
+        whose = say("that code") if vote.has_codes else elector
+        words = say("Another ballot of {name} counts", whose)
+        none = say("No ballot of {name} counts", whose)
+        tell(vote.with_answers(words, answers) if answers else none)
     tell(*letter_words.judged_anew(judged_before, letters_now(vote), change.letters))
-    tell("A strike cannot be undone: if it was a mistake, enter the line again.")
+    tell(say("A strike cannot be undone: if it was a mistake, enter the line again."))
     tell_next(election)
 
 
@@ -60,7 +61,8 @@ def what_is_struck(vote: Vote, arguments: Arguments, because: str) -> Change:
         "strike",
         {"envelope": envelope.number, "because": because},
         question=terminal_question(
-            f"Strike {in_words(envelope, vote)}? This cannot be undone.", arguments.yes
+            say("Strike {envelope}? This cannot be undone.", in_words(envelope, vote)),
+            arguments.yes,
         ),
         struck=[envelope.number],
         letters={letter.number: queries.STRUCK for letter in entered},
@@ -70,9 +72,8 @@ def what_is_struck(vote: Vote, arguments: Arguments, because: str) -> Change:
 def in_words(envelope: Envelope, vote: Vote) -> str:
     # no code that nobody typed, nor one with a wrong digit
     line = LIKE_A_CODE.sub(b"CODE", envelope.line) if vote.has_codes else envelope.line
-    return (
-        f"envelope {envelope.number}{' (late)' if envelope.is_late else ''}: `{shown_line(line)}`"
-    )
+    late = f" ({say('late')})" if envelope.is_late else ""
+    return f"{envelope_words([envelope.number])}{late}: `{shown_line(line)}`"
 
 
 def demand_envelope(vote: Vote, number: int) -> Envelope:

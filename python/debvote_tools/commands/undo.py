@@ -8,7 +8,7 @@ from debvote_tools.book.book import Book, DoneAct
 from debvote_tools.book.change import Change, carried_out, terminal_question
 from debvote_tools.call.tellers import demand_openable
 from debvote_tools.cli.arguments import Acting, flag
-from debvote_tools.cli.console import act_time, count_of, tell
+from debvote_tools.cli.console import act_time, count_of_lines, say, say_number, tell
 from debvote_tools.cli.faults import Fault
 from debvote_tools.election import Election, History
 from debvote_tools.inbox import letter_words
@@ -38,18 +38,20 @@ def undo(election: Election, arguments: Arguments) -> None:
     judged_before = letters_now(vote)
     change = carried_out(book, lambda: what_is_taken_back(vote, arguments))
     ballots = () if change.question else change.ballots
-    tell(f"Took back {what(change.undone, change.struck)}.", *ballots, *change.others)
+    took = say("Took back {lines}.", what(change.undone, change.struck))
+    tell(took, *ballots, *change.others)
     # the letters whose own ballots it was are told apart
     judged_after = letters_now(vote)
     tell(*letter_words.judged_anew(judged_before, judged_after, change.letters))
     if queries.last_entering_act(book):
-        tell(f"Another {election.command('undo')} takes back the act before.")
+        tell(say("Another {undo} takes back the act before.", election.command("undo")))
     tell_next(election)
 
 
 def what(act: DoneAct, numbers: Sequence[int]) -> str:
-    files = f" of {', '.join(act.detail['files'])}" if act.detail.get("files") else ""
-    return f"{count_of(len(numbers), 'line')} (act {act.number}: {act.name}{files}, {act_time(act.time)}, {envelope_words(numbers)})"
+    files = ", ".join(act.detail.get("files", ()))
+    of_files = files and f" {say('of {files}', files)}"
+    return f"{count_of_lines(len(numbers))} ({say('act {number}', number=act.number)}: {say(act.name)}{of_files}, {act_time(act.time)}, {envelope_words(numbers)})"
 
 
 def what_is_taken_back(vote: Vote, arguments: Arguments) -> TakenBack:
@@ -64,8 +66,8 @@ def what_is_taken_back(vote: Vote, arguments: Arguments) -> TakenBack:
         before, after = with_and_without(book, envelopes, act)
     struck = [envelope.number for envelope in envelopes]
     letters = sorted({envelope.letter for envelope in envelopes if envelope.letter is not None})
-    question = terminal_question(f"Take back {what(act, struck)}?", arguments.yes)
-    none = f"no ballot {'would be' if question else 'is'} left"
+    question = terminal_question(say("Take back {lines}?", what(act, struck)), arguments.yes)
+    none = say("no ballot would be left") if question else say("no ballot is left")
     ballots = standing_words(vote, before, after, none)
     others = [*what_else_changes(book, struck, letters)]
     return TakenBack(
@@ -101,12 +103,12 @@ def last_entering_act(vote: Vote, history: History) -> DoneAct:
 def what_else_changes(book: Book, struck: Sequence[int], letters: Sequence[int]) -> Iterator[str]:
     """Beside ballots: letters, and receipts, which tell of envelopes."""
     if letters:
-        yield f"{count_of(len(letters), 'letter then waits', 'letters then wait')} again, as taken back: {', '.join(map(str, letters))}"
+        yield f"{say_number('{number} letter then waits again, as taken back', '{number} letters then wait again, as taken back', len(letters))}: {', '.join(map(str, letters))}"
     about = {("envelope", number, False) for number in struck}
     written = outgoing.outgoing_letters(book, "receipts")
     having = {letter.elector for letter in written if about.intersection(letter.about)}
     if names := [elector.name for elector in queries.electors(book) if elector.number in having]:
-        yield f"These electors have receipts that are no longer true: {', '.join(names)}"
+        yield f"{say('These electors have receipts that are no longer true')}: {', '.join(names)}"
 
 
 def demand_open(election: Election, history: History) -> None:

@@ -9,14 +9,18 @@ from debvote_tools.book.change import Change
 from debvote_tools.book.queries import NewEnvelope
 from debvote_tools.cli import console
 from debvote_tools.cli.arguments import Acting, option
-from debvote_tools.cli.console import act_time, count_of, shown_line
+from debvote_tools.cli.console import act_time, count_of, say, say_time, shown_line
 from debvote_tools.cli.faults import Fault, Status, bad_words
 from debvote_tools.election import Election, History
 from debvote_tools.files import BALLOTS_LIMIT, LINES_LIMIT
 from debvote_tools.inbox.vote import CheckedLine, Vote, envelope_words, replies_to
-from debvote_tools.text.times import now, time_in_words
+from debvote_tools.text.language import marked
+from debvote_tools.text.times import now
 
 CAME_BEFORE_CLOSE = "--came-before-close"
+WOULD_REPLACE = marked(
+    "`{line}` was late before, and would replace envelope {envelope}, which came in time"
+)
 
 
 class Arguments(Acting):
@@ -87,12 +91,15 @@ def late_notes(election: Election, history: History, what: str) -> list[str]:
     """
     if history.is_closed:
         closed = act_time(history.closes[-1].time)
-        return [f"Note: the vote was closed at {closed}; {what} now is late."]
+        return [say("Note: the vote was closed at {closed}; {what} now is late.", closed, what)]
     if history.until is not None and not history.closes and now() >= history.until:
-        over = f"the announced end of the vote, {time_in_words(history.until)}, has passed"
-        counts = f"{what} still counts until you close the vote"
-        close = election.command("close")
-        return [f"Note: {over}; {counts}, and the result page says how many lines: {close}"]
+        words = say(
+            "Note: the announced end of the vote, {until}, has passed; {what} still counts until you close the vote, and the result page says how many lines: {close}",
+            say_time(history.until),
+            what,
+            election.command("close"),
+        )
+        return [words]
     return []
 
 
@@ -106,15 +113,20 @@ def came_before_close(history: History, answer: str | None) -> bool | None:
         return None
     if answer is not None:
         return answer == "yes"
-    closed = f"vote was closed at {act_time(history.closes[0].time)} and opened again"
+    closed = act_time(history.closes[0].time)
     if not console.is_terminal():
-        words = f"the {closed}, and only what came before counts"
+        words = (
+            f"the vote was closed at {closed} and opened again, and only what came before counts"
+        )
         cure = f"say whether this came before that close: {CAME_BEFORE_CLOSE} yes, or {CAME_BEFORE_CLOSE} no, which makes it late"
         raise Fault(CAME_BEFORE_CLOSE, words, cure)
-    came_before = console.is_yes(f"The {closed}. Did this come before that close?")
+    asked = say(
+        "The vote was closed at {time} and opened again. Did this come before that close?", closed
+    )
+    came_before = console.is_yes(asked)
     if came_before is None:
-        words = "you did not say whether it came before the close"
-        raise Fault(None, words, "run the command again")
+        words = say("you did not say whether it came before the close")
+        raise Fault(None, words, say("run the command again"))
     return came_before
 
 
@@ -129,8 +141,7 @@ def replaced_in_time(
         return {}
     others = queries.late_beside_others(vote.book)
     return {
-        line: f"{line.original.where}: `{shown_line(line.as_entered)}` was late before, and would "
-        f"replace envelope {others[line.as_entered]}, which came in time"
+        line: f"{line.original.where}: {say(WOULD_REPLACE, shown_line(line.as_entered), others[line.as_entered])}"
         for line in lines
         if line.as_entered in others
     }

@@ -9,7 +9,7 @@ import dataclasses
 import datetime
 import enum
 
-from debvote_tools.cli.console import act_time, shown_text
+from debvote_tools.cli.console import act_time, say, shown_text
 
 Value = str | int | datetime.datetime
 
@@ -233,7 +233,7 @@ class Reason(enum.Enum):
 def for_secretary(why: ReasonWithValues) -> str:
     """The reason as the secretary reads it, as a part of a sentence."""
     values = {name: shown_value(value) for name, value in why.values}
-    return why.reason.value[0].format(**values)
+    return say(why.reason.value[0], **values)
 
 
 def shown_value(value: Value) -> str:

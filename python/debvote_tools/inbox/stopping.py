@@ -14,10 +14,11 @@ from typing import TYPE_CHECKING
 from debvote_tools.book import queries
 from debvote_tools.book.book import Book, DoneAct
 from debvote_tools.book.queries import KeptLetter
-from debvote_tools.cli.console import in_runs
+from debvote_tools.cli.console import in_runs, say
 from debvote_tools.cli.faults import Fault
 from debvote_tools.election import Election, History
 from debvote_tools.inbox.asked import CLOSES, unasked_fault, with_lost_records
+from debvote_tools.text.language import marked
 
 if TYPE_CHECKING:
     from debvote_tools.inbox.rules import LetterCase
@@ -26,7 +27,7 @@ if TYPE_CHECKING:
 LETTERS = "letters left"
 BOX = "box not asked"
 LOST = "records lost"
-CLOSE_ANYWAY = "close anyway with --force --because TEXT (the result page says so)"
+CLOSE_ANYWAY = marked("close anyway with --force --because TEXT (the result page says so)")
 # how each later step goes on without the letters that stop it; a publication says it in its doubts
 ANYWAY = {
     "count": "or count without them with --force",
@@ -57,7 +58,7 @@ class Pending:
 
     @property
     def why_they_stop(self) -> str:
-        return f"these letters arrived in time, and wait: {', '.join(map(str, self.stopping))}"
+        return f"{say('these letters arrived in time, and wait')}: {', '.join(map(str, self.stopping))}"
 
 
 def what_stops(
@@ -84,8 +85,11 @@ def what_stops(
 def letters_cure(election: Election, step: str, *, is_closed: bool) -> str:
     """What is done with letters that stop a step."""
     if not is_closed:
-        look = f"add the mailbox once more, then look at them with {election.command('held')}"
-        return f"{look}; or {CLOSE_ANYWAY}"
+        return say(
+            "add the mailbox once more, then look at them with {held}; or {close}",
+            election.command("held"),
+            say(CLOSE_ANYWAY),
+        )
     aside = f"set aside what is no ballot: {election.command('held', 'NUMBER', '--set-aside')}"
     reopen = election.command("reopen", "--because", "TEXT")
     enter = (
@@ -148,11 +152,10 @@ def left_by(acts: Iterable[DoneAct]) -> set[int]:
 def taken_out_words(election: Election, history: History) -> str:
     """How many lines count no more that were told as entered, by whatever command they went."""
     lost = [envelope.number for envelope in queries.lost(election.book)]
-    which = f" (envelopes {in_runs(lost)})" if lost and not election.questions.is_secret else ""
+    numbers = in_runs(lost) if lost and not election.questions.is_secret else ""
+    which = numbers and f" ({say('envelopes {numbers}', numbers)})"
     strikes = len(history.since_call("strike"))
-    return (
-        f"Strikes: {strikes}. Taken back, and not entered again as they were: {len(lost)}{which}."
-    )
+    return f"{say('Strikes')}: {strikes}. {say('Taken back, and not entered again as they were')}: {len(lost)}{which}."
 
 
 def other_votes_words(marks: Iterable[str]) -> Iterator[str]:

@@ -12,7 +12,16 @@ from debvote_tools.book import queries
 from debvote_tools.book.book import Detail
 from debvote_tools.book.change import carried_out
 from debvote_tools.book.queries import NewEnvelope
-from debvote_tools.cli.console import count_of, is_terminal, listed, shown_text, tell
+from debvote_tools.cli.console import (
+    count_of,
+    is_terminal,
+    listed,
+    say,
+    say_number,
+    shown_text,
+    tell,
+    wait_words,
+)
 from debvote_tools.cli.faults import Fault
 from debvote_tools.inbox import letter_words
 from debvote_tools.inbox.given_files import safe
@@ -52,13 +61,13 @@ def take_letters(
             what, cure = why.value
             tell(f"{shown_text(raw.where)}: {what}, and was passed over; {cure}")
     readable = sum(raw.why_not_read is None for raw in brought.letters)
-    came_before = f"{count_of(len(new), 'new letter')}; {readable - len(new)} came before."
+    came_before = f"{say_number('{number} new letter', '{number} new letters', len(new))}; {say('{letters} came before.', readable - len(new))}"
     own = {raw.digest for raw in new}
     plan = functools.partial(what_goes_in, vote, own, of_box=of_box, is_agreed=is_agreed)
     if is_look:
         would = plan(read)
         would.tell_letters()
-        tell(came_before, would.end.replace("went in", "would go in"), "Nothing was changed.")
+        tell(came_before, would.end, say("Nothing was changed."))
         return
     tell(came_before)
     change = carried_out(vote.book, plan)
@@ -66,7 +75,7 @@ def take_letters(
         # now who has a later ballot need not vote again
         tell(unopened_words(vote))
     if change.letters:
-        tell(f"{vote.election.command('undo')} takes back what was entered last.")
+        tell(f"{vote.election.command('undo')} {say('takes back what was entered last.')}")
 
 
 # ---- keeping
@@ -130,6 +139,10 @@ class LetterEntry(Entry):
         yield from filter(None, [self.end])
 
 
+def enter_words(number: int) -> str:
+    return say_number("Enter {number} ballot?", "Enter {number} ballots?", number)
+
+
 def envelope_of(letter: LetterCase, ballot: Ballot) -> NewEnvelope:
     return NewEnvelope(ballot.line.encode(), "", letter.kept.source, letter.number, letter.time)
 
@@ -154,7 +167,7 @@ class GoingIn(LetterEntry):
         tell(*letter_words.table(with_outcome(own, LetterOutcome.WAITS)))
         if older := with_outcome(own, LetterOutcome.OLDER):
             numbers = listed([*map(letter_words.name_of, older)], MOST_NAMED)
-            tell(f"Passed over, since a later letter of its elector went in: {numbers}")
+            tell(f"{say('Passed over, since a later letter of its elector went in')}: {numbers}")
         of_others = with_outcome(self.cases, LetterOutcome.OTHER_VOTE)
         tell(*other_votes_words(letter.other_vote for letter in of_others))
 
@@ -169,29 +182,32 @@ class GoingIn(LetterEntry):
             raise Fault(None, f"{ballots} would go in", cure, done=done)
 
     def declined(self, _: bool | None) -> None:
-        waits = letter_words.wait_words(sum(letter.is_pending for letter in self.cases))
+        waits = wait_words(sum(letter.is_pending for letter in self.cases))
         keeps_out = self.vote.election.command("held", "NUMBER", "--wait")
         tell(
-            f"Nothing was entered. The letters are kept, and wait: {waits}.",
-            f"The next add --yes, by cron too, enters these ballots: {keeps_out} keeps one out.",
+            f"{say('Nothing was entered. The letters are kept, and wait')}: {waits}.",
+            say(
+                "The next add --yes, by cron too, enters these ballots: {held} keeps one out.",
+                keeps_out,
+            ),
         )
 
 
 def what_goes_in(
     vote: Vote,
     own: Set[str],
-    previewed: Sequence[ReadLetter] = (),
+    previewed: Sequence[ReadLetter] | None = None,
     *,
     of_box: bool,
     is_agreed: bool,
 ) -> GoingIn:
-    every = judged(vote, vote.history(), queries.kept_letters(vote.book), previewed)
+    every = judged(vote, vote.history(), queries.kept_letters(vote.book), previewed or ())
     cases = [letter for letter in every if letter.read.link or not of_box]
     new = with_outcome(cases, LetterOutcome.GOES_IN)
     return GoingIn(
         "add",
         {"letters": len(new), "lines": len(new)},
-        question="" if is_agreed else f"Enter {count_of(len(new), 'ballot')}?",
+        question="" if is_agreed else enter_words(len(new)),
         is_nothing=not new,
         letters={letter.number: queries.ENTERED for letter in new},
         vote=vote,
@@ -200,7 +216,7 @@ def what_goes_in(
         envelopes=[envelope_of(letter, letter.sole_line.ballot) for letter in new],
         # what is late breaks a rule, and does not go in
         is_late=False,
-        end=letter_words.went_in_words(every, len(new)),
+        end=letter_words.went_in_words(every, len(new), is_look=previewed is not None),
         cases=cases,
         own=own,
     )

@@ -15,10 +15,13 @@ from debvote_tools.call.tellers import ON_PAPER, PAPER
 from debvote_tools.cli.console import (
     LEAVING_OUT,
     count_of,
+    count_of_lines,
     cut,
     hides,
     in_runs,
     private,
+    say,
+    say_number,
     shown_line,
 )
 from debvote_tools.cli.faults import Fault
@@ -29,7 +32,7 @@ from debvote_tools.grouping import grouped
 from debvote_tools.inbox.lines import RIGHT_ANSWERS, Line, Names, name_in, names_of, with_small_name
 from debvote_tools.poll.codes import has_code
 from debvote_tools.text.ballots import Ballot, ballot_file, ballot_of, part_of, ranks_by_label
-from debvote_tools.text.language import ENGLISH
+from debvote_tools.text.language import ENGLISH, SPOKEN, marked
 from debvote_tools.text.motions import ABSTAIN, words_in
 
 # the cure where lines look like a table
@@ -134,7 +137,7 @@ class Vote:
         # what debvote has said of lines
         self.known = dict[bytes, Mapping[str, Finding]]()
         # most ballots have one of a few orders
-        self.in_words_of = functools.lru_cache(4096)(questions.in_words())
+        self.in_words_of = functools.lru_cache(4096)(questions.in_words(SPOKEN.get()))
 
     def history(self) -> History:
         """The acts until now. Stops after another call: lines were read by the poll of this one."""
@@ -434,7 +437,7 @@ class Vote:
     @property
     def show_words(self) -> str:
         """What is said below ballots in short."""
-        return f"Each in words: {self.election.command('show', 'NAME')}"
+        return f"{say('Each in words')}: {self.election.command('show', 'NAME')}"
 
     @property
     def right_line(self) -> str:
@@ -448,14 +451,17 @@ class Vote:
     def right_words(self) -> str:
         """A ballot line with what each rank is of, as `explain` has it."""
         if self.has_tellers:
-            return f"Type `{self.right_line}` for each who votes on paper; the page alone seals ballots."
+            words = marked(
+                "Type `{line}` for each who votes on paper; the page alone seals ballots."
+            )
+            return say(words, self.right_line)
         polls = {"": self.poll} if self.poll else self.questions
         options = "; ".join(
             f"{label} {numbered(poll.names)}".strip() for label, poll in polls.items()
         )
-        ranks_of = f"the ranks of {cut(options, MOST_OF_OPTIONS)}; 1 is the best"
-        words = f"A ballot line of this poll: `{self.right_line}`: {ranks_of}"
-        return words if self.poll else f"{words}; a question may be left out"
+        ranks_of = say("the ranks of {options}; 1 is the best", cut(options, MOST_OF_OPTIONS))
+        words = f"{say('A ballot line of this poll')}: `{self.right_line}`: {ranks_of}"
+        return words if self.poll else f"{words}; {say('a question may be left out')}"
 
 
 def is_check_off(line: bytes) -> bool:
@@ -479,7 +485,7 @@ def turned_rank(number: int, options: int) -> str:
 COUNTED = "counted"
 REPLACED = "replaced"
 # the same of a ballot of which the answers differ
-IN_PART = f"{REPLACED} in part"
+IN_PART = marked("replaced in part")
 
 
 def replies_to(
@@ -506,7 +512,7 @@ def replies_to(
 
 def envelope_words(numbers: Collection[int]) -> str:
     """Some envelopes, in their order, as `envelope 3` or `envelopes 3-5, 7`."""
-    return f"envelope{'s' * (len(numbers) != 1)} {in_runs(numbers)}"
+    return say_number("envelope {numbers}", "envelopes {numbers}", len(numbers), in_runs(numbers))
 
 
 def in_parts(lines: Sequence[bytes]) -> Iterator[list[bytes]]:
@@ -529,19 +535,20 @@ def change_words(line: CheckedLine) -> Iterator[str]:
     came = line.original.unframed
     meant = line.as_meant
     if came not in (line.as_entered, meant):
-        yield f"{line.original.where}: `{shown_line(came)}` was changed to `{shown_line(meant)}`"
+        changed = say("`{came}` was changed to `{meant}`", shown_line(came), shown_line(meant))
+        yield f"{line.original.where}: {changed}"
 
 
 def summary(replies: Sequence[str]) -> str:
     """How many lines there are, by the replies to them; those to single answers come last."""
     parts = [reply.split(", ") for reply in replies if ", " in reply]
     whole = collections.Counter(reply for reply in replies if ", " not in reply)
-    listed = [f"{number} {reply}" for reply, number in whole.items()]
+    listed = [f"{number} {say(reply)}" for reply, number in whole.items()]
     if parts:
         answers = sorted(collections.Counter(itertools.chain(*parts)).items())
         of_answers = ", ".join(f"{answer} {number}" for answer, number in answers)
-        listed.append(f"{len(parts)} {IN_PART}: {of_answers}")
-    return count_of(len(replies), "line") + (f" ({', '.join(listed)})" if listed else "")
+        listed.append(f"{len(parts)} {say(IN_PART)}: {of_answers}")
+    return count_of_lines(len(replies)) + (f" ({', '.join(listed)})" if listed else "")
 
 
 def standing_words(
@@ -553,10 +560,14 @@ def standing_words(
     }
     gone = list(changed.values()).count(None)
     if vote.has_codes:
-        counts = f"  {count_of(gone, 'elector')}: {none}; {count_of(len(changed) - gone, 'elector')}: an earlier ballot"
+        of_gone, of_others = (
+            say_number("{number} elector", "{number} electors", number)
+            for number in (gone, len(changed) - gone)
+        )
+        counts = f"  {of_gone}: {none}; {of_others}: {say('an earlier ballot')}"
         return [counts] if changed else []
     return [
-        vote.with_answers(f"  {name}, as before", answers, "    ")
+        vote.with_answers(f"  {name}, {say('as before')}", answers, "    ")
         if answers
         else f"  {name}: {none}"
         for name, answers in changed.items()

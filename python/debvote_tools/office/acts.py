@@ -5,6 +5,7 @@ import importlib
 from collections.abc import Iterator, Mapping, Sequence
 from typing import Any
 
+from debvote_tools.cli.console import say
 from debvote_tools.commands.command_line import COMMANDS, PHASES
 
 # what is a page of its own
@@ -70,7 +71,7 @@ def form_of(name: str) -> Form:
     module = importlib.import_module(f"debvote_tools.commands.{name}")
     run = getattr(module, name)
     kind = run.__annotations__["arguments"]
-    return Form(name, " ".join(run.__doc__.split()), list(fields_of(kind)))
+    return Form(name, say(" ".join(run.__doc__.split())), list(fields_of(kind)))
 
 
 def fields_of(kind: type) -> Iterator[Field]:
@@ -82,7 +83,7 @@ def fields_of(kind: type) -> Iterator[Field]:
             yield Field(
                 field,
                 how.get("name", f"--{field.replace('_', '-')}"),
-                how["help"],
+                say(how["help"]),
                 how.get("metavar") or "",
                 list(map(str, how.get("choices") or ())),
                 how.get("action") == "store_true",

@@ -5,7 +5,7 @@ from collections.abc import Mapping, Sequence
 
 from debvote_tools.book import queries
 from debvote_tools.call.tellers import ON_PAPER
-from debvote_tools.cli.console import asked_for
+from debvote_tools.cli.console import asked_for, say
 from debvote_tools.election import Election
 from debvote_tools.inbox.entering import late_notes
 from debvote_tools.inbox.vote import Vote
@@ -67,7 +67,7 @@ def desk_of(election: Election, run: Run | None) -> Values:
         "electors": electors if len(electors) <= MOST_OFFERED else [],
         "has_codes": vote.has_codes,
         "on_paper": ON_PAPER if vote.has_tellers else "",
-        "notes": list(late_notes(election, election.history(), "what is entered")),
+        "notes": list(late_notes(election, election.history(), say("what is entered"))),
         "typed": None,
         "who": "",
     }

@@ -47,7 +47,7 @@ class Office:
         # why the folder that was named has no election
         self.fault = ""
         self.held: IO[str] | None = None
-        self.runs = Runs(programs / "debvote-election", pathlib.Path.home(), ENVIRONMENT)
+        self.runs = Runs(programs / "debvote-election", pathlib.Path.home(), self.environment)
         self.lock = threading.Lock()
         # one page at a time reads the book: to close a file of a database that is open elsewhere in
         # a process drops the locks that SQLite has on it
@@ -71,6 +71,10 @@ class Office:
         handle = os.open(self.page, os.O_WRONLY | os.O_CREAT | os.O_EXCL, 0o600)
         with open(handle, "w", encoding="utf-8") as file:
             file.write(LEADS.format(self.address()))
+
+    def environment(self) -> dict[str, str]:
+        """That of a command, which speaks the language of the page."""
+        return {**ENVIRONMENT, "DEBVOTE_LANGUAGE": self.code}
 
     def kept(self, given: str, data: bytes) -> pathlib.Path:
         """Where a file lies that was uploaded, with a plain name like its own."""

@@ -36,7 +36,7 @@ OWN_TIME = 600
 QUESTION = re.compile(f"{ASKS}([a-z]+){IS_ASKED}([^{ASKED}]*){ASKED}")
 # what a command writes behind a question that takes yes or no, for which the page has buttons
 YES_OR_NO = " [y/n] "
-NEXT = "Next: "
+NEXT = ("Next: ", "Then: ")
 # the answers that are no, by the kind of their question
 DECLINED = {"yes": "n", "refused": ""}
 # how a command writes what became of a line (docs/FORMATS.md)
@@ -244,7 +244,10 @@ class Runs:
     """The commands that this office has started."""
 
     def __init__(
-        self, program: pathlib.Path, folder: pathlib.Path, environment: Mapping[str, str]
+        self,
+        program: pathlib.Path,
+        folder: pathlib.Path,
+        environment: Callable[[], Mapping[str, str]],
     ) -> None:
         self.program = program
         self.folder = folder
@@ -283,7 +286,7 @@ class Runs:
                 stdin=subprocess.DEVNULL if task.is_own else subprocess.PIPE,
                 stdout=subprocess.PIPE,
                 stderr=subprocess.STDOUT,
-                env=os.environ if task.is_own else os.environ | self.environment,
+                env=os.environ if task.is_own else {**os.environ, **self.environment()},
                 start_new_session=True,
             )
         except (OSError, ValueError) as error:

@@ -29,7 +29,7 @@ from debvote_tools.office.office import ALL, HOST, Office
 from debvote_tools.office.pages import get
 from debvote_tools.office.posts import post
 from debvote_tools.office.visit import Answer, File, Form, Page, Refused, See, Visit
-from debvote_tools.text.language import LANGUAGES, Language
+from debvote_tools.text.language import LANGUAGES, SPOKEN, Language
 from debvote_tools.text.rendering import resources, templates_of
 
 PACKAGE = "debvote_tools.office"
@@ -150,6 +150,7 @@ class Request(http.server.BaseHTTPRequestHandler):
 
     def answered(self, visit: Visit, make: Callable[[], Answer]) -> None:
         """Writes the answer, or a page with the fault that stops it."""
+        SPOKEN.set(visit.language)
         with contextlib.closing(visit):
             try:
                 answer = made = make()

@@ -14,7 +14,7 @@ from collections.abc import Collection, Iterable, Iterator, Mapping, Sequence
 from typing import NamedTuple
 
 from debvote_tools.call.secret import demand_no_code
-from debvote_tools.cli.console import tell_aside, tell_aside_as_it_is
+from debvote_tools.cli.console import say, tell_aside, tell_aside_as_it_is
 from debvote_tools.cli.faults import Fault, Status, bad_words, stop_at
 from debvote_tools.debvote import Answer, Debvote, findings_in
 from debvote_tools.files import (
@@ -290,7 +290,7 @@ def demand_publishable(
     stop_at(faults)
     for doubt in doubts:
         where = f"question {doubt.label}: " if doubt.label else ""
-        tell_aside(f"Note: {where}{doubt.advice}; the result page says so")
+        tell_aside(say("Note: {doubt}; the result page says so", f"{where}{doubt.advice}"))
     return doubts
 
 

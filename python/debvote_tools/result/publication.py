@@ -25,7 +25,7 @@ from debvote_tools.call.tellers import (
     tellers_file,
     voted_file,
 )
-from debvote_tools.cli.console import demand_yes, in_runs, tell_aside
+from debvote_tools.cli.console import demand_yes, in_runs, say, say_time, tell_aside
 from debvote_tools.cli.faults import Fault
 from debvote_tools.debvote import casting_words
 from debvote_tools.election import TELLERS, Election, Fixed, History, fixed_by
@@ -275,7 +275,11 @@ def early_close(history: History) -> Doubt | None:
     if until is None or not history.was_closed_early:
         return None
     closed = history.closes[0].time.astimezone(history.zone)
-    advice = f"the vote was closed on {time_in_words(closed)}, before its announced end, {time_in_words(until)}"
+    advice = say(
+        "the vote was closed on {closed}, before its announced end, {until}",
+        say_time(closed),
+        say_time(until),
+    )
     # `close --early` has agreed to it
     return Doubt("closed early", advice, {"closed": closed, "until": until}, stops=False)
 
@@ -538,5 +542,5 @@ def agreed_texts(history: History, texts: Mapping[str, str], *, is_agreed: bool)
     if new and not is_agreed:
         for text in new:
             tell_aside(f"{texts[text]}:", *(f"  {line}" for line in text.strip().split("\n")))
-        demand_yes("May everybody read this?", "these texts may tell who voted what")
+        demand_yes(say("May everybody read this?"), "these texts may tell who voted what")
     return list(new.values())

@@ -1,9 +1,11 @@
 """The language of what electors read: English, or one that has its translations in `locale`.
 
 Each sentence is in the code or in a template once, whole and in English, with its places by name in
-braces. What the secretary reads at the terminal is always English.
+braces. What the secretary reads at a terminal is always English; at the office `say` of
+`console.py` says it in the language of its pages.
 """
 
+import contextvars
 import functools
 import gettext
 import io
@@ -12,11 +14,7 @@ import pathlib
 from collections.abc import Iterable, Mapping
 from typing import TypeVar
 
-# each by the code that the pages have for it, with its name in English
-LANGUAGES = {"en": "English", "de": "German", "fr": "French", "es": "Spanish"}
-
 LOCALE = pathlib.Path(__file__).parent.parent / "locale"
-
 
 Marked = TypeVar("Marked")
 
@@ -26,6 +24,10 @@ def marked(texts: Marked) -> Marked:
     elsewhere.
     """
     return texts
+
+
+# each by the code that the pages have for it, with its name in English
+LANGUAGES = marked({"en": "English", "de": "German", "fr": "French", "es": "Spanish"})
 
 
 class Language:
@@ -89,6 +91,9 @@ class Language:
 
 
 ENGLISH = Language("en", gettext.NullTranslations())
+
+# the language in which the secretary reads what commands say
+SPOKEN = contextvars.ContextVar[Language]("spoken", default=ENGLISH)
 
 
 @functools.cache

@@ -48,9 +48,11 @@ def offset_of(time: datetime.datetime) -> str:
     return f"UTC{offset[:3]}:{offset[3:5]}" if time.utcoffset() else "UTC"
 
 
-def minute_in_words(time: datetime.datetime, zone: datetime.tzinfo | None) -> str:
+def minute_in_words(
+    time: datetime.datetime, zone: datetime.tzinfo | None, language: Language = ENGLISH
+) -> str:
     """A time to the minute, as the clock of a zone shows it."""
-    return time_in_words(time.astimezone(zone).replace(second=0))
+    return time_in_words(time.astimezone(zone).replace(second=0), language)
 
 
 def date_in_words(

@@ -56,7 +56,7 @@ class ByKeys(LettersTest):
             page.ask("document.getElementById('Path').focus()")
             page.type(str(self.folder / "mail.mbox"))
             page.enter()
-            self.assertIn("Enter 1 ballot?", page.seen())
+            self.assertIn("1 Stimmzettel erfassen?", page.seen())
             page.until("document.activeElement.name === 'answer'")
             page.enter()
             self.assert_lines("ada 1,2,3,4")
