@@ -64,7 +64,7 @@ def status(election: Election, arguments: Arguments) -> None:
     with election.book.snapshot():
         history = election.history()
         counting = queries.what_counts(election.book)
-        state = state_of(election, history, counting)
+        state = state_of(election, history, counting, pending_letters(election, history))
         if history.call is not None and election.questions.is_several:
             state["questions"] = questions_in(election, history, has_late=bool(state["late"]))
         refused = still_refused(election.book, counting)
@@ -81,11 +81,12 @@ def demand_names(election: Election) -> None:
         raise Fault("--electors", words, "leave it out")
 
 
-def state_of(election: Election, history: History, counting: Mapping[str, str]) -> State:
+def state_of(
+    election: Election, history: History, counting: Mapping[str, str], pending: Pending
+) -> State:
     """The numbers of an election; `counting` is what counts of each elector."""
     book = election.book
     electors = [elector.name for elector in queries.electors(book)]
-    pending = Pending() if history.call is None else pending_letters(election, history)
     unreached, printed = unreached_and_printed(election, history)
     return {
         "stage": history.stage,

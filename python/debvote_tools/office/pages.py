@@ -210,7 +210,7 @@ def run(visit: Visit, rest: str) -> Answer:
         "refreshes": not (question or is_over),
     }
     if shown.words[0] == "check":
-        values["previews"] = views.previews_of(visit.election)
+        values |= views.previews_of(visit.election)
     return Page("run", values)
 
 

@@ -17,11 +17,12 @@ from debvote_tools.election import LETTERS, PRIVATE, URN, Election, History
 from debvote_tools.inbox.urn import words_before_close
 from debvote_tools.outbox.letter_folder import TO_PRINT
 from debvote_tools.outbox.steps import (
+    Now,
+    due_now,
     file_of,
     next_place,
     published_place,
     remembered,
-    what_next,
 )
 from debvote_tools.poll.plain_names import alike
 from debvote_tools.poll.questions import Questions, place_of
@@ -47,12 +48,14 @@ def state_of(election: Election) -> Values:
     with election.book.snapshot():
         history = election.history()
         counting = queries.what_counts(election.book)
-        state = status.state_of(election, history, counting)
+        # letters are judged once: of many that takes longest
+        now = Now(election, history)
+        state = status.state_of(election, history, counting, now.pending)
         questions = election.questions if history.call else None
         if questions and questions.is_several:
             has_late = bool(state["late"])
             state["questions"] = status.questions_in(election, history, has_late=has_late)
-        dues = what_next(election, history)
+        dues = due_now(now)
     return {
         "state": state,
         "history": history,
@@ -64,8 +67,7 @@ def state_of(election: Election) -> Values:
         "dues": dues,
         "notes": list(words_before_close(election, history)),
         "prints": prints_of(election),
-        "previews": previews_of(election),
-        "next_preview": next_preview(election.path(PREVIEW)),
+        **previews_of(election),
         "has_server": remembered(history) is not None,
         "file_of": functools.partial(file_of, election, history),
         "next_folder": "".join(next_place(election)),
@@ -147,20 +149,19 @@ def prints_of(election: Election) -> list[str]:
     return [str(file.relative_to(election.folder)) for file in files if file.is_file()]
 
 
-def previews_of(election: Election) -> dict[str, str]:
-    """What the last preview has made, by its names: where it is in the folder."""
+def previews_of(election: Election) -> Values:
+    """What the last preview has made, by its names, and the name of the next one."""
     folders = sorted(election.folder.glob(f"{PREVIEW}*"), key=lambda one: one.stat().st_mtime)
+    place = election.path(PREVIEW)
     return {
-        name: f"{folder.name}/{name}"
-        for folder in folders[-1:]
-        for name in PREVIEWED
-        if (folder / name).is_file()
+        "previews": {
+            name: f"{folder.name}/{name}"
+            for folder in folders[-1:]
+            for name in PREVIEWED
+            if (folder / name).is_file()
+        },
+        "next_preview": PREVIEW if is_free(place) else other_place(place).name,
     }
-
-
-def next_preview(place: pathlib.Path) -> str:
-    """The name of a folder for a preview, in which there is none."""
-    return place.name if is_free(place) else other_place(place).name
 
 
 # ---- the roll

@@ -32,7 +32,7 @@ from debvote_tools.election import (
     History,
 )
 from debvote_tools.inbox.asked import asked_last, has_page_of_now, last_box, unasked_fault
-from debvote_tools.inbox.stopping import cases_of, pending_of
+from debvote_tools.inbox.stopping import Pending, cases_of, pending_of
 from debvote_tools.outbox.reached import NO_LETTER, page_since, unreached_and_printed
 from debvote_tools.poll.questions import POLL_FILE
 from debvote_tools.result.casting import in_shell, named, publishing
@@ -145,6 +145,10 @@ class Now:
         return cases_of(self.election, self.history, queries.may_be_told)
 
     @functools.cached_property
+    def pending(self) -> Pending:
+        return pending_of(self.history, self.cases)
+
+    @functools.cached_property
     def letters_to_tell(self) -> dict[tuple[int, int], int]:
         """The acts that kept letters, by the electors who are told of them, and their numbers."""
         if not self.cases:
@@ -179,11 +183,14 @@ class Now:
 
 
 def what_next(election: Election, history: History) -> list[Due]:
+    return due_now(Now(election, history))
+
+
+def due_now(now: Now) -> list[Due]:
     """All that is due, in its order: the first is the next step. The last is what has to be waited
     for, or that nothing is left.
     """
-    now = Now(election, history)
-    finders = BEFORE_CALL if history.call is None else SINCE_CALL
+    finders = BEFORE_CALL if now.history.call is None else SINCE_CALL
     return [due for find in finders for due in find(now)]
 
 
@@ -224,8 +231,7 @@ def page(now: Now) -> Iterator[Due]:
 
 def held(now: Now) -> Iterator[Due]:
     """Letters that arrived in time; and while people vote, before the call."""
-    pending = pending_of(now.history, now.cases)
-    number = len(pending.stopping) + (0 if now.is_over else pending.before_call)
+    number = len(now.pending.stopping) + (0 if now.is_over else now.pending.before_call)
     if number:
         yield Due(Step.HELD, number)
 

@@ -167,11 +167,24 @@ class Followed:
     # ---- what the secretary does
     def follow(self):
         """Does what comes next, until that is a time, or nothing is left."""
+        self.refuse_some()
+        self.do_all()
+        self.demand_all_sent()
+
+    def refuse_some(self):
         if self.chance.random() < 0.3:
             name = self.chance.choice(NAMES[:-1])
             answer = self.chance.choice(["450 later", "550 no"])
             self.server.rcpt_answers[self.addresses[name]] = answer
             self.refused.add(name)
+
+    def accept_later(self):
+        """No server is so busy for long."""
+        for address, answer in [*self.server.rcpt_answers.items()]:
+            if answer.startswith("450"):
+                del self.server.rcpt_answers[address]
+
+    def do_all(self):
         said = self.done("status").output
         for place in itertools.count():
             self.assertLess(place, MOST, said)
@@ -180,11 +193,7 @@ class Followed:
                 break
             words = shlex.split(COMMAND.search(following)[1])
             said = self.does(words, following)
-            # no server is so busy for long
-            for address, answer in [*self.server.rcpt_answers.items()]:
-                if answer.startswith("450"):
-                    del self.server.rcpt_answers[address]
-        self.demand_all_sent()
+            self.accept_later()
 
     def does(self, words: list[str], following: str) -> str:
         """Runs a command, and returns what it says."""

@@ -1,11 +1,17 @@
 """Letters on the pages of the office."""
 
 import re
+from unittest import mock
+
+from debvote_tools.election import Election
+from debvote_tools.inbox import judging
+from debvote_tools.office import views
 
 from tests.support import offices
 from tests.support.called import LettersTest
 from tests.support.elections import POLL
 from tests.support.letters import ballot, letter, mailbox
+from tests.support.program import PROGRAM
 
 # the pages of which none has an address of its own
 PLACES = ("", "letters", "desk/2", "roll", "all", "do/show", "draft")
@@ -122,6 +128,14 @@ class Letters(LettersTest):
             self.assertEqual(len(re.findall("<script", page)), 1)
         self.assert_lines()
 
+    def test_letters_are_judged_once_for_the_overview(self):
+        self.add(letter("ada", "hello"))
+        election = Election(self.folder, PROGRAM.parent)
+        self.addCleanup(election.opened.connection.close)
+        with mock.patch.object(judging, "judge_all", wraps=judging.judge_all) as judge:
+            self.assertEqual(views.state_of(election)["state"]["waiting"], 1)
+        self.assertEqual(judge.call_count, 1)
+
     def test_a_hundred_letters_are_on_a_page(self):
         office = offices.Office(self)
         rows = [letter("ada", f"hello {number}", number=number) for number in range(1, 131)]
@@ -177,11 +191,10 @@ class Secret(LettersTest):
             self.demand_unsaid(office)
         text = office.yes(office.post("do/show", name="ada"))
         self.assertIn("The current ballot: Sell the house and meet there, then", text)
-        for command in ("log", "status", "held", "close", "count", "publish", "log"):
-            self.demand_unsaid(office)
+        for command in ("log", "status", "close", "count", "publish", "log"):
             office.agree(f"do/{command}")
+            self.demand_unsaid(office)
         self.assertIn(("publish",), self.rows("SELECT name FROM act"))
-        self.demand_unsaid(office)
 
     def demand_unsaid(self, office, *decided):
         """No page has ranks, but for those where they are decided."""

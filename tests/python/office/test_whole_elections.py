@@ -1,13 +1,12 @@
 """Whole elections in chromium, from the menu to the last letters, by clicks and keys alone."""
 
 import collections
+import contextlib
 import itertools
-import pathlib
 import re
 import shutil
 import time
-import unittest
-from collections.abc import Mapping
+from collections.abc import Iterator, Mapping
 
 import pytest
 
@@ -37,15 +36,23 @@ TEXTS = "texts"
 KEYS = {"12": "j", "21": "n", "11": "e"}
 
 
-def begin(at: Secretary, folder: pathlib.Path, questions: int = 1):
-    """From the menu to the form of the questions."""
-    at.part = BEFORE
-    at.go("")
-    at.click("de")
-    at.fill("#Made", folder)
-    if questions > 1:
-        at.fill("#Questions", questions)
-    at.click("Make it", "Open it", "Fill in the questions and the members")
+@contextlib.contextmanager
+def played(test: ElectionTest, won: str, questions: int = 1) -> Iterator[Secretary]:
+    """Who has come from the menu to the form of the questions. At the end nothing is left to be done, and the published page
+    says who has won; no page has said anything in English, nor was one refused anything.
+    """
+    with Secretary(offices.Office(test, folder="")) as at:
+        at.part = BEFORE
+        at.go("")
+        at.click("de")
+        at.fill("#Made", test.folder)
+        if questions > 1:
+            at.fill("#Questions", questions)
+        at.click("Make it", "Open it", "Fill in the questions and the members")
+        yield at
+        test.assertIn("Es ist nichts mehr zu tun.", at.seen())
+        test.assertIn(won, at.look("Look at the published page"))
+        test.assertEqual((at.english, at.faults), ({}, []))
 
 
 def draft(at: Secretary, polls: Mapping[str, Poll], members: str, *, is_secret: bool = False):
@@ -75,61 +82,38 @@ def draft(at: Secretary, polls: Mapping[str, Poll], members: str, *, is_secret: 
     at.click("Save it, and read the members", "Overview", "Check the questions")
 
 
-def demand_clean(test: unittest.TestCase, *windows: Secretary):
-    """No page has said anything in English, nor was one refused anything."""
-    for at in windows:
-        test.assertEqual((at.english, at.faults), ({}, []))
-
-
-class Played(ElectionTest):
-    """The folder is made on the page."""
-
-    def begin(self):
-        self.folder = self.scratch / "wahl"
-
-    def setUp(self):
-        super().setUp()
-        self.server = MailServer()
-        self.addCleanup(self.server.stop)
-
-
 @NEEDS_BROWSER
-class Motion(Played):
-    names = ["ada", "ben", "cleo", "dan", "eve", "fay", "gus", "hal"]
+class Motion(ElectionTest):
+    def begin(self):
+        """The folder is made on the page."""
 
     def test_a_motion_of_eight_at_a_desk(self):
-        office = offices.Office(self, folder="")
-        with Secretary(office) as at:
-            begin(at, self.folder)
+        server = MailServer()
+        self.addCleanup(server.stop)
+        names = self.names[:8]
+        with played(self, "4 Ja, 1 Nein") as at:
             at.fill("[name=title]", "Wir kaufen ein zweites Boot")
             at.pick("[value=motion]")
-            rows = (f"{name.title()}\t{name}@club.example\n" for name in self.names)
+            rows = (f"{name.title()}\t{name}@club.example\n" for name in names)
             at.fill("[name=members]", "who\tmail\n" + "".join(rows))
             at.click("Save it, and read the members", "Overview", "Check the questions")
             at.click("Call for votes")
             at.fill("[name=to]", "wahl@club.example")
             at.fill("[name=at]", "https://club.example/wahl/")
             at.click("Do it", "It is done", "Send the letters: {kind}")
-            at.fill("[name=server]", self.server.name)
+            at.fill("[name=server]", server.name)
             at.click("Do it", "Enter ballots at the desk")
-            for name, answer in zip(self.names, "jjjnje"):
+            for name, answer in zip(names, "jjjnje"):
                 at.type_ballot(name, answer)
             at.click("Overview", "Send {number} receipt", "Close the vote", "Yes")
             at.click("Send the letters: {kind}", "Count", "Publish the result", "It is done")
             at.click("Send the letters: {kind}")
-            self.assertIn("Es ist nichts mehr zu tun.", at.seen())
-            self.assertIn("4 Ja, 1 Nein", at.look("Look at the published page"))
-            demand_clean(self, at)
         # the call, the close and the result to all, and receipts to those who voted
-        self.assertEqual(len(self.server.taken), 3 * 8 + 6)
+        self.assertEqual(len(server.taken), 3 * 8 + 6)
 
 
 class ByClicks(MeetingTest):
     """A meeting of 40 members, who can vote on a page."""
-
-    def setUp(self):
-        super().setUp()
-        self.folder = self.scratch / "wahl"
 
     def call(self, at: Secretary, *answers: str):
         """Calls for votes, answers what is asked, makes a backup, uploads the page, and sends the letters."""
@@ -166,11 +150,7 @@ class Meeting(ByClicks):
 
     def test_an_evening(self):
         self.polls = OPEN
-        office = offices.Office(self, folder="")
-        with Secretary(office) as at, Secretary(office) as helper:
-            helper.counted = at.counted
-            helper.part = SINCE
-            begin(at, self.folder, len(OPEN))
+        with played(self, "Grün", len(OPEN)) as at:
             draft(at, OPEN, ROWS)
             self.call(at)
             self.clicks(MEMBERS[:11])
@@ -181,27 +161,31 @@ class Meeting(ByClicks):
             self.extend(at)
             self.clicks(MEMBERS[11:22])
             at.click("Fetch the clicks", "Enter these ballots", "Enter ballots at the desk")
-            helper.go("")
-            helper.click("Desk", "Others enter at desks of their own", "Platz 2")
-            self.type_ballots(at, helper)
+            with Secretary(at.office) as helper:
+                helper.counted = at.counted
+                helper.english = at.english
+                helper.part = SINCE
+                helper.go("")
+                helper.click("Desk", "Others enter at desks of their own", "Platz 2")
+                self.type_ballots(at, helper)
             at.click("Overview", "Send {number} receipt", "Close it early", "Yes")
             self.server.taken.clear()
             at.click("Send the letters: {kind}")
             closing = text_in(self.taken(40)[0])
             at.click("Count", "Publish the result", "It is done", "Send the letters: {kind}")
             self.taken(40)
-            # the result with the casting vote takes its place
-            shutil.copytree(self.folder / "result", self.folder / "tied")
-            self.assertIn("Blau Grün", at.seen())
-            at.pick("[value='G=Gruen']")
-            at.fill("[name=cast_by]", "Der Vorsitz")
-            at.fill_day("[name=cast_on]", time.strftime("%m%d%Y"))
-            at.click("Publish the result", "It is done", "Send the letters: {kind}")
-            self.assertIn("Grün", at.look("Look at the published page"))
-            self.assertIn("Es ist nichts mehr zu tun.", at.seen())
-            self.demand_few(at)
-            demand_clean(self, at, helper)
+            self.cast(at)
+        self.demand_few(at)
         self.demand_end("tied", "result", closing, self.taken(40))
+
+    def cast(self, at: Secretary):
+        """The casting vote, and the result with it, which takes the place of the first one."""
+        shutil.copytree(self.folder / "result", self.folder / "tied")
+        self.assertIn("Blau Grün", at.seen())
+        at.pick("[value='G=Gruen']")
+        at.fill("[name=cast_by]", "Der Vorsitz")
+        at.fill_day("[name=cast_on]", time.strftime("%m%d%Y"))
+        at.click("Publish the result", "It is done", "Send the letters: {kind}")
 
     def letters(self, at: Secretary):
         """A mail folder, of which two letters wait: one is typed, the other one is entered."""
@@ -267,9 +251,7 @@ class Meeting(ByClicks):
 class Secret(ByClicks):
     def test_two_secret_questions(self):
         self.polls = SECRET
-        office = offices.Office(self, folder="")
-        with Secretary(office) as at:
-            begin(at, self.folder, len(SECRET))
+        with played(self, "Käthe Groß", len(SECRET)) as at:
             draft(at, SECRET, ROWS, is_secret=True)
             at.click("Make the codes", "Do it")
             self.call(at, "Yes", "Yes")
@@ -282,25 +264,17 @@ class Secret(ByClicks):
             at.click("Overview", "Send {number} receipt", "Close it early", "Yes")
             at.click("Send the letters: {kind}", "Count", "Publish the result", "It is done")
             at.click("Send the letters: {kind}")
-            self.assertIn("Käthe Groß", at.look("Look at the published page"))
-            self.assertIn("Es ist nichts mehr zu tun.", at.seen())
-            demand_clean(self, at)
         self.demand_secret()
 
 
 @pytest.mark.whole
 @NEEDS_BROWSER
-class Drawn(Played):
+@NEEDS_PHP
+class Drawn(MeetingTest):
     def test_codes_that_are_drawn(self):
-        office = offices.Office(self, folder="")
-        with Secretary(office) as at:
-            begin(at, self.folder)
-            draft(
-                at,
-                {"": OPEN["B"]},
-                "who,mail\n" + "".join(f"{who},\n" for who in [*WHO.values()][:12]),
-                is_secret=True,
-            )
+        with played(self, "Cäcilie Groß") as at:
+            who = "".join(f"{who},\n" for who in [*WHO.values()][:12])
+            draft(at, {"": OPEN["B"]}, f"who,mail\n{who}", is_secret=True)
             at.click("Make the codes")
             at.pick("[name=on_roll]")
             at.click("Do it", "Call for votes", "Do it", "Yes")
@@ -311,6 +285,3 @@ class Drawn(Played):
                 at.type_ballot(code, ranks)
             at.click("Overview", "Close the vote", "Yes", "It is done", "Count")
             at.click("Publish the result", "It is done", "It is done")
-            self.assertIn("Es ist nichts mehr zu tun.", at.seen())
-            self.assertIn("Cäcilie Groß", at.look("Look at the published page"))
-            demand_clean(self, at)
