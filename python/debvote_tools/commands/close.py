@@ -68,7 +68,11 @@ def close(election: Election, arguments: Arguments) -> None:
         tell(*still_taking_words(election, history))
     else:
         tell(
-            f"{say('The vote was closed at {time}, with {lines} in time.', act_time(act.time), lines_in_words(fixed))} {say('Nothing was changed.')}"
+            say(
+                "The vote was closed at {time}, with {lines} in time. Nothing was changed.",
+                act_time(act.time),
+                lines_in_words(fixed),
+            )
         )
     if written:
         tell(say("Made {file}.", path))
@@ -170,7 +174,9 @@ def came_last(election: Election, history: History, lines: str) -> str:
     never = say("never")
     end = say_time(history.until) if history.until else say("not announced")
     return (
-        f"{say('Until now {lines} came in time.', lines)} {say('Added last')}: {last.get(False, never)}. {say('Entered last at a desk')}: {last.get(True, never)}. "
+        f"{say('Until now {lines} came in time.', lines)} "
+        f"{say('Added last')}: {last.get(False, never)}. "
+        f"{say('Entered last at a desk')}: {last.get(True, never)}. "
         f"{taken_out_words(election, history)} {say('End of the vote')}: {end}."
     )
 

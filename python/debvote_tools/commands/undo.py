@@ -51,7 +51,8 @@ def undo(election: Election, arguments: Arguments) -> None:
 def what(act: DoneAct, numbers: Sequence[int]) -> str:
     files = ", ".join(act.detail.get("files", ()))
     of_files = files and f" {say('of {files}', files)}"
-    return f"{count_of_lines(len(numbers))} ({say('act {number}', number=act.number)}: {say(act.name)}{of_files}, {act_time(act.time)}, {envelope_words(numbers)})"
+    by = f"{say('act {number}', number=act.number)}: {say(act.name)}{of_files}"
+    return f"{count_of_lines(len(numbers))} ({by}, {act_time(act.time)}, {envelope_words(numbers)})"
 
 
 def what_is_taken_back(vote: Vote, arguments: Arguments) -> TakenBack:
@@ -103,7 +104,12 @@ def last_entering_act(vote: Vote, history: History) -> DoneAct:
 def what_else_changes(book: Book, struck: Sequence[int], letters: Sequence[int]) -> Iterator[str]:
     """Beside ballots: letters, and receipts, which tell of envelopes."""
     if letters:
-        yield f"{say_number('{number} letter then waits again, as taken back', '{number} letters then wait again, as taken back', len(letters))}: {', '.join(map(str, letters))}"
+        waits = say_number(
+            "{number} letter then waits again, as taken back",
+            "{number} letters then wait again, as taken back",
+            len(letters),
+        )
+        yield f"{waits}: {', '.join(map(str, letters))}"
     about = {("envelope", number, False) for number in struck}
     written = outgoing.outgoing_letters(book, "receipts")
     having = {letter.elector for letter in written if about.intersection(letter.about)}

@@ -62,6 +62,12 @@ def arrival_of(letter: LetterCase) -> str:
     return say("at an unknown time") if arrived is None else act_time(arrived)
 
 
+def came_words(new: int, given: int) -> str:
+    """How many of the letters that are given are new."""
+    words = say_number("{number} new letter", "{number} new letters", new)
+    return f"{words}; {say('{letters} came before.', given - new)}"
+
+
 # ---- what goes in
 def going_in_words(letters: Sequence[LetterCase], vote: Vote) -> Iterator[str]:
     """Of each letter whose ballot it is, and how it is read. Of records in a secret vote the names

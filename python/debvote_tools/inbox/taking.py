@@ -61,7 +61,7 @@ def take_letters(
             what, cure = why.value
             tell(f"{shown_text(raw.where)}: {what}, and was passed over; {cure}")
     readable = sum(raw.why_not_read is None for raw in brought.letters)
-    came_before = f"{say_number('{number} new letter', '{number} new letters', len(new))}; {say('{letters} came before.', readable - len(new))}"
+    came_before = letter_words.came_words(len(new), readable)
     own = {raw.digest for raw in new}
     plan = functools.partial(what_goes_in, vote, own, of_box=of_box, is_agreed=is_agreed)
     if is_look:
