@@ -18,7 +18,7 @@ build: ## prove and build the program, crates/debvote/out/debvote
 	@docs/make-teller
 
 check: ## prove the crate CRATE=..
-	@tests/support/near.py crate "$(CRATE)" && cd "crates/$(CRATE)" && rt check
+	@tests/support/near_names.py crate "$(CRATE)" && cd "crates/$(CRATE)" && rt check
 
 test: ## run all tests that need no proof, in some minutes; with NAME=.. that test of the crates of tests alone
 	@if [ -z "$(NAME)" ]; then exec tests/quick; fi; \

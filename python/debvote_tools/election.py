@@ -247,7 +247,7 @@ class Election:
         return Debvote(self.folder, self.program_folder)
 
     @functools.cached_property
-    def opened(self) -> Book:
+    def open_book(self) -> Book:
         """The book, of which nothing is said: commands use `book` or `book_for`."""
         if not self.path(BOOK_FILE).is_file():
             raise no_book(self.folder)
@@ -260,8 +260,8 @@ class Election:
         """The book: for reading, and for acts once `demand_right_book` has passed. Before that it
         says on standard error why it may not be the right one.
         """
-        tell_aside(*(f"Note: {doubt.file}: {doubt.reason}." for doubt in self.opened.doubts()))
-        return self.opened
+        tell_aside(*(f"Note: {doubt.file}: {doubt.reason}." for doubt in self.open_book.doubts()))
+        return self.open_book
 
     def whole_book(self) -> Book:
         """The book for reading, of which all digests are computed anew."""
@@ -277,7 +277,7 @@ class Election:
         """Stops if the book is not the one that this machine knows, unless --moved says that it is
         right.
         """
-        book = self.opened
+        book = self.open_book
         if arguments.writes:
             self.demand_writable()
         stop_at(book.doubts(is_accepted=arguments.moved))
@@ -290,14 +290,14 @@ class Election:
             book.demand_whole()
 
     def demand_writable(self) -> None:
-        if self.opened.is_read_only:
+        if self.open_book.is_read_only:
             cure = "make it writable for you, or copy the folder to where you can write"
             raise Fault(self.folder, "the folder is not writable", cure, Status.BAD_OUTPUT)
 
     @property
     def done(self) -> str:
         """The acts of this run, each as `act 7 (add)`; empty if it has done none."""
-        own = self.opened.own_acts if "opened" in vars(self) else {}
+        own = self.open_book.own_acts if "open_book" in vars(self) else {}
         acts = [f"act {number} ({name})" for number, name in own.items()]
         if len(acts) > 1:
             return f"{len(acts)} acts were done, the last is {acts[-1]}"
@@ -305,8 +305,8 @@ class Election:
 
     def demand_undamaged(self) -> None:
         """Stops if the book, once it is open, is damaged."""
-        if "opened" in vars(self):
-            self.opened.demand_whole()
+        if "open_book" in vars(self):
+            self.open_book.demand_whole()
 
     @functools.cached_property
     def language(self) -> Language:

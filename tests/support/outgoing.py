@@ -16,7 +16,7 @@ import unittest
 from collections.abc import Mapping, Sequence
 
 from tests.support import elections
-from tests.support.called import LettersTest
+from tests.support.election_books import LettersTest
 
 try:
     from aiosmtpd.controller import Controller

@@ -14,7 +14,7 @@ import re
 import tomllib
 
 from tests import reference
-from tests.support.spoken import Spoken
+from tests.support.translations import Spoken
 
 EMPTY_TAGS = {"meta", "br", "hr", "input", "rect", "path"}
 # of scripts a page has its own alone

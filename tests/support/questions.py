@@ -10,7 +10,7 @@ from collections.abc import Iterable, Mapping, Sequence
 from debvote_tools.election import Election
 from debvote_tools.text.language import language_of
 
-from tests.support.called import LettersTest
+from tests.support.election_books import LettersTest
 from tests.support.program import PROGRAM, ROOT
 
 REFERENCE = ROOT / "tests" / "reference.py"

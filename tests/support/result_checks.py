@@ -25,7 +25,7 @@ from tests.support import page_parts as pages, publishing
 from tests.support.page_parts import Wrong, demand
 from tests.support.polls import random_polls
 from tests.support.publishing import PROGRAM
-from tests.support.spoken import LANGUAGES, Spoken
+from tests.support.translations import LANGUAGES, Spoken
 
 # how many random polls without a fault are published; from ENOUGH on all kinds of sentences have to
 # occur

@@ -23,7 +23,7 @@ class Change:
     _: dataclasses.KW_ONLY
     # what is told before it; what is asked then, if anything; and if there is nothing to do
     shown: Sequence[str] = ()
-    question: str = ""
+    prompt: str = ""
     is_nothing: bool = False
     # the envelopes that are struck, and what is decided of letters
     struck: Sequence[int] = ()
@@ -39,7 +39,7 @@ class Change:
 
     def ask(self) -> bool | None:
         """Whether it is agreed to; None at the end of the input."""
-        return is_yes(self.question)
+        return is_yes(self.prompt)
 
     def declined(self, _: bool | None) -> None:
         """What follows if the answer is no; None is the end of the input."""
@@ -77,9 +77,9 @@ class Change:
             self.report(act.number)
 
 
-def terminal_question(question: str, is_agreed: bool) -> str:
+def terminal_prompt(prompt: str, is_agreed: bool) -> str:
     """A question that is asked only at a terminal, unless it was agreed to."""
-    return question if is_terminal() and not is_agreed else ""
+    return prompt if is_terminal() and not is_agreed else ""
 
 
 Planned = TypeVar("Planned", bound=Change)
@@ -104,7 +104,7 @@ def carried_out(book: Book, plan: Callable[[], Planned]) -> Planned:
             change.show()
             if change.is_nothing:
                 return change
-            if change.question and not (answer := change.ask()):
+            if change.prompt and not (answer := change.ask()):
                 change.declined(answer)
                 return change
             shown = change

@@ -51,7 +51,7 @@ from debvote_tools.election import (
     Sealed,
 )
 from debvote_tools.files import OWN, PUBLIC, read_whole, write_made
-from debvote_tools.inbox.asked import last_box, unasked_fault
+from debvote_tools.inbox.last_asking import last_box, unasked_fault
 from debvote_tools.inbox.signature import read_keyring
 from debvote_tools.outbox.steps import tell_next
 from debvote_tools.poll.announced import (

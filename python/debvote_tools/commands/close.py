@@ -6,7 +6,7 @@ from collections.abc import Iterable, Iterator, Mapping
 
 from debvote_tools.book import queries
 from debvote_tools.book.book import Detail, DoneAct
-from debvote_tools.book.change import Change, carried_out, terminal_question
+from debvote_tools.book.change import Change, carried_out, terminal_prompt
 from debvote_tools.call.secret import seal_line, sealed_checksum
 from debvote_tools.cli.arguments import Acting, demand_reason, flag, has_reason, option
 from debvote_tools.cli.console import act_time, count_of, count_of_lines, say, say_time, tell
@@ -14,7 +14,7 @@ from debvote_tools.cli.faults import Fault, stop_at
 from debvote_tools.election import LETTERS, Election, Fixed, History, fixed_by
 from debvote_tools.files import OWN, write_made
 from debvote_tools.inbox import urn
-from debvote_tools.inbox.asking import ask_before_close
+from debvote_tools.inbox.box_asking import ask_before_close
 from debvote_tools.inbox.stopping import (
     Pending,
     other_votes_words,
@@ -202,8 +202,8 @@ def what_is_closed(election: Election, arguments: Arguments) -> Closing:
     if stopping:
         detail["because"] = demand_reason(arguments.because, "--force")
     shown = [*what_came(election, history, fixed, pending), *words_of(election, Step.RECEIPTS)]
-    question = terminal_question(say(ALL), arguments.yes)
-    return Closing("close", detail, shown=shown, question=question, sealed=sealed)
+    prompt = terminal_prompt(say(ALL), arguments.yes)
+    return Closing("close", detail, shown=shown, prompt=prompt, sealed=sealed)
 
 
 def what_came(

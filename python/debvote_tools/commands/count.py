@@ -6,8 +6,8 @@ from debvote_tools.cli.arguments import Acting, flag, option
 from debvote_tools.cli.console import tell, tell_as_it_is, tell_aside
 from debvote_tools.cli.faults import bad_words, stop_at
 from debvote_tools.election import Election
-from debvote_tools.inbox.asked import asked_words
-from debvote_tools.inbox.asking import ask_for
+from debvote_tools.inbox.last_asking import asked_words
+from debvote_tools.inbox.box_asking import ask_for
 from debvote_tools.inbox.stopping import Pending, pending_letters, what_stops
 from debvote_tools.outbox.steps import Step, next_line, what_next
 from debvote_tools.poll.questions import Questions

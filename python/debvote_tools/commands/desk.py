@@ -181,7 +181,7 @@ class Casting(entering.Entry):
         without end. What comes from a pipe after a reopen is planned again: a late line may replace
         what came.
         """
-        if not self.question and "came_before_close" in self.detail:
+        if not self.prompt and "came_before_close" in self.detail:
             return False
         there = queries.envelope_states(self.vote.book, self.elector)
         return (self.vote.history().timing, there) == (self.timing, self.there)
@@ -189,7 +189,7 @@ class Casting(entering.Entry):
     def ask(self) -> bool | None:
         if all(line.is_ballot for line in self.lines):
             return super().ask()
-        answer = typed(self.question, "refused")
+        answer = typed(self.prompt, "refused")
         if answer is None:
             return None
         is_agreed = answer.strip().lower() == ENTER
@@ -208,7 +208,7 @@ class Casting(entering.Entry):
         # the end may pass while a desk is open; of a late line its reply says so
         if not (is_told or self.is_late):
             yield from self.desk.notes
-        if not self.question:
+        if not self.prompt:
             yield from self.vote.report_of_lines(self.lines, numbers, replies)
             return
         # what was asked about was shown in words
@@ -241,7 +241,7 @@ def what_is_cast(desk: Desk, lines: list[CheckedLine], elector: int | None, asks
         "desk",
         detail,
         shown=shown,
-        question=asked,
+        prompt=asked,
         is_nothing=not lines,
         vote=vote,
         envelopes=[

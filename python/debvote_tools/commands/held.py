@@ -9,7 +9,7 @@ from typing import NamedTuple
 
 from debvote_tools.book import queries
 from debvote_tools.book.book import ActName
-from debvote_tools.book.change import Change, carried_out, terminal_question
+from debvote_tools.book.change import Change, carried_out, terminal_prompt
 from debvote_tools.book.queries import EnteredBallot, TimedBallot
 from debvote_tools.call.call import current_call
 from debvote_tools.cli.arguments import Acting, flag, given, option, positional
@@ -321,7 +321,7 @@ def entry_of(
         "enter",
         {"letters": numbers, "lines": [line.number for _, line in ballots if line.number]},
         shown=[row for one in chosen for row in shown(vote, one)],
-        question=terminal_question(f"{more}{enter_words(len(ballots))}", is_agreed),
+        prompt=terminal_prompt(f"{more}{enter_words(len(ballots))}", is_agreed),
         letters=dict.fromkeys(numbers, queries.ENTERED),
         vote=vote,
         envelopes=[envelope_of(letter, line.ballot) for letter, line in ballots],

@@ -30,7 +30,7 @@ from debvote_tools.cli.faults import Fault, Status, bad_words, kept_in, stop_at
 from debvote_tools.election import LETTERS, Election, History
 from debvote_tools.files import locked, uninterrupted
 from debvote_tools.grouping import grouped
-from debvote_tools.inbox.asked import unasked_fault
+from debvote_tools.inbox.last_asking import unasked_fault
 from debvote_tools.outbox import letter_folder, smtp
 from debvote_tools.outbox.due import LettersDue, demand_due, is_present, letters_due
 from debvote_tools.outbox.reached import WAS_REFUSED, unreached_and_printed

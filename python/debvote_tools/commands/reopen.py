@@ -3,7 +3,7 @@
 from collections.abc import Iterator
 
 from debvote_tools.book import queries
-from debvote_tools.book.change import Change, carried_out, terminal_question
+from debvote_tools.book.change import Change, carried_out, terminal_prompt
 from debvote_tools.cli.arguments import Acting, demand_reason, flag, option
 from debvote_tools.call.tellers import demand_openable
 from debvote_tools.cli.console import act_time, is_terminal, is_yes, listed, say, shown_line, tell
@@ -65,8 +65,8 @@ def what_is_reopened(election: Election, arguments: Arguments, because: str) -> 
     if election.questions.is_secret:
         told = say("Only the log tells this reason.")
     question = say("Open the vote again, because: {because}?", because)
-    asked = terminal_question(f"{question} {told}", arguments.yes)
-    return Change("reopen", {"because": because}, question=asked)
+    asked = terminal_prompt(f"{question} {told}", arguments.yes)
+    return Change("reopen", {"because": because}, prompt=asked)
 
 
 def late_words(vote: Vote, history: History) -> Iterator[str]:

@@ -23,7 +23,7 @@ from debvote_tools.cli.console import (
 )
 from debvote_tools.cli.faults import Fault, stop_at
 from debvote_tools.election import Election, History
-from debvote_tools.inbox.asked import asked_last, asked_words, with_lost_records
+from debvote_tools.inbox.last_asking import asked_last, asked_words, with_lost_records
 from debvote_tools.inbox.urn import words_before_close
 from debvote_tools.inbox.stopping import Pending, pending_letters, taken_out_words
 from debvote_tools.inbox.vote import Vote, envelope_words

@@ -3,7 +3,7 @@
 import re
 
 from debvote_tools.book import queries
-from debvote_tools.book.change import Change, carried_out, terminal_question
+from debvote_tools.book.change import Change, carried_out, terminal_prompt
 from debvote_tools.book.queries import Envelope
 from debvote_tools.cli.arguments import Acting, demand_reason, flag, option, positional
 from debvote_tools.cli.console import act_time, say, shown_line, tell
@@ -60,7 +60,7 @@ def what_is_struck(vote: Vote, arguments: Arguments, because: str) -> Change:
     return Change(
         "strike",
         {"envelope": envelope.number, "because": because},
-        question=terminal_question(
+        prompt=terminal_prompt(
             say("Strike {envelope}? This cannot be undone.", in_words(envelope, vote)),
             arguments.yes,
         ),

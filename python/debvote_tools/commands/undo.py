@@ -5,7 +5,7 @@ from collections.abc import Iterator, Sequence
 
 from debvote_tools.book import outgoing, queries
 from debvote_tools.book.book import Book, DoneAct
-from debvote_tools.book.change import Change, carried_out, terminal_question
+from debvote_tools.book.change import Change, carried_out, terminal_prompt
 from debvote_tools.call.tellers import demand_openable
 from debvote_tools.cli.arguments import Acting, flag
 from debvote_tools.cli.console import act_time, count_of_lines, say, say_number, tell
@@ -37,7 +37,7 @@ def undo(election: Election, arguments: Arguments) -> None:
     vote = Vote(election)
     judged_before = letters_now(vote)
     change = carried_out(book, lambda: what_is_taken_back(vote, arguments))
-    ballots = () if change.question else change.ballots
+    ballots = () if change.prompt else change.ballots
     took = say("Took back {lines}.", what(change.undone, change.struck))
     tell(took, *ballots, *change.others)
     # the letters whose own ballots it was are told apart
@@ -67,15 +67,15 @@ def what_is_taken_back(vote: Vote, arguments: Arguments) -> TakenBack:
         before, after = with_and_without(book, envelopes, act)
     struck = [envelope.number for envelope in envelopes]
     letters = sorted({envelope.letter for envelope in envelopes if envelope.letter is not None})
-    question = terminal_question(say("Take back {lines}?", what(act, struck)), arguments.yes)
-    none = say("no ballot would be left") if question else say("no ballot is left")
+    prompt = terminal_prompt(say("Take back {lines}?", what(act, struck)), arguments.yes)
+    none = say("no ballot would be left") if prompt else say("no ballot is left")
     ballots = standing_words(vote, before, after, none)
     others = [*what_else_changes(book, struck, letters)]
     return TakenBack(
         "undo",
         {"act": act.number},
-        shown=[*ballots, *others] if question else (),
-        question=question,
+        shown=[*ballots, *others] if prompt else (),
+        prompt=prompt,
         struck=struck,
         letters=dict.fromkeys(letters, queries.TAKEN_BACK),
         undone=act,

@@ -36,11 +36,16 @@ from debvote_tools.call.tellers import has_right_block
 from debvote_tools.election import BOX_KEY, BOX_PAGE, POLL, Election, History
 from debvote_tools.files import sha256_of
 from debvote_tools.grouping import grouped
-from debvote_tools.inbox.asked import has_list_of_now, has_page_of_now, last_box, with_lost_records
+from debvote_tools.inbox.last_asking import (
+    has_list_of_now,
+    has_page_of_now,
+    last_box,
+    with_lost_records,
+)
 from debvote_tools.inbox.letter import YEAR, arrival_of
 from debvote_tools.inbox.mailbox import BEGIN, NotRead, RawLetter
 from debvote_tools.inbox.vote import Vote
-from debvote_tools.patience import within
+from debvote_tools.timeout import within
 from debvote_tools.poll.sealed import OWN, OWN_SIGNS, read_plain
 from debvote_tools.text import times
 
@@ -348,7 +353,7 @@ def records_in(
         if raw.digest in known:
             letters.append(raw)
             continue
-        letter = opened(vote.book, raw)
+        letter = opened_record(vote.book, raw)
         sent = letter.sent
         came = by_link.setdefault(letter.link, [])
         times = {sent, *(time for time, _ in came)}
@@ -362,7 +367,7 @@ def records_in(
     return letters, unopened
 
 
-def opened(book: Book, raw: RawLetter) -> RawLetter:
+def opened_record(book: Book, raw: RawLetter) -> RawLetter:
     """The letter that a record is, if an elector's page sealed it for its poll, number and proof.
     The key of the box alone shows that a link is true, also one whose own mark the book lacks.
     """

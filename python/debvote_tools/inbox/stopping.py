@@ -17,7 +17,7 @@ from debvote_tools.book.queries import KeptLetter
 from debvote_tools.cli.console import in_runs, say
 from debvote_tools.cli.faults import Fault
 from debvote_tools.election import Election, History
-from debvote_tools.inbox.asked import CLOSES, unasked_fault, with_lost_records
+from debvote_tools.inbox.last_asking import CLOSES, unasked_fault, with_lost_records
 from debvote_tools.text.language import marked
 
 if TYPE_CHECKING:

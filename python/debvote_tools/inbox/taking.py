@@ -29,7 +29,7 @@ from debvote_tools.inbox.entering import Entry
 from debvote_tools.inbox.judging import judged
 from debvote_tools.inbox.letter_lines import ReadLetter, read_letters, to_json
 from debvote_tools.inbox.mailbox import RawLetter
-from debvote_tools.inbox.box_records import Brought, asked_box, opened, unopened_words
+from debvote_tools.inbox.box_records import Brought, asked_box, opened_record, unopened_words
 from debvote_tools.inbox.rules import LetterCase, LetterOutcome
 from debvote_tools.inbox.vote import Vote
 from debvote_tools.inbox.stopping import other_votes_words
@@ -50,7 +50,7 @@ def take_letters(
     """Keeps new letters, and enters the ballots that go in; or tells what would become of them.
     Those `of_box` are its records: the others that wait stay as they are.
     """
-    files = [opened(vote.book, raw) if raw.is_fetched else raw for raw in given]
+    files = [opened_record(vote.book, raw) if raw.is_fetched else raw for raw in given]
     brought = asked_box(vote) if of_box else Brought(files)
     tell(*brought.words)
     new, read = new_in(vote, brought)
@@ -175,7 +175,7 @@ class GoingIn(LetterEntry):
         self.tell_letters()
         if self.is_nothing:
             tell(self.end)
-        elif self.question and not is_terminal():
+        elif self.prompt and not is_terminal():
             ballots = count_of(len(self.letters), "ballot")
             cure = "agree with --yes, or run it at a terminal"
             done = "nothing was added, and the letters are kept"
@@ -207,7 +207,7 @@ def what_goes_in(
     return GoingIn(
         "add",
         {"letters": len(new), "lines": len(new)},
-        question="" if is_agreed else enter_words(len(new)),
+        prompt="" if is_agreed else enter_words(len(new)),
         is_nothing=not new,
         letters={letter.number: queries.ENTERED for letter in new},
         vote=vote,

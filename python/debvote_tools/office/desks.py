@@ -71,7 +71,7 @@ def desk_of(election: Election, run: Run | None) -> Values:
         "typed": None,
         "who": "",
     }
-    if run and run.ballot and run.question and run.question.kind != "ballot":
+    if run and run.ballot and run.prompt and run.prompt.kind != "ballot":
         # who types it sees it
         with asked_for(True):
             drawn = drawn_in(vote, said, run.ballot)

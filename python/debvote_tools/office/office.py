@@ -96,7 +96,7 @@ class Office:
                 return
             with self.reading:
                 election = self.election_in(folder)
-                with contextlib.closing(election.opened.connection):
+                with contextlib.closing(election.open_book.connection):
                     self.held = state.lock_of(folder)
                     if not self.is_code_given:
                         self.code = election.language.code
@@ -112,7 +112,7 @@ class Office:
     def election_in(self, folder: pathlib.Path) -> Election:
         """An election, whose doubts the page shows, and nothing says on standard error."""
         election = Election(folder, self.programs)
-        election.book = election.opened
+        election.book = election.open_book
         return election
 
     # ---- its end

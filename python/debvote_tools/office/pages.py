@@ -145,7 +145,7 @@ def desk(visit: Visit, rest: str) -> Answer:
         {
             **values,
             "run": run,
-            "question": run.question if run else None,
+            "prompt": run.prompt if run else None,
             "desk": number,
             "name": names[number],
             "names": names,
@@ -199,7 +199,7 @@ def run(visit: Visit, rest: str) -> Answer:
     if shown.words[0] == "desk":
         raise Refused()
     lines = [line for one in row_of(shown) for line in lines_of(one.said)]
-    question = shown.question
+    question = shown.prompt
     is_over = shown.status is not None
     if is_over and shown.words[0] == "show" and visit.election.questions.is_secret:
         shown.said = ""

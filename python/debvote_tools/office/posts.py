@@ -180,7 +180,7 @@ def desk(visit: Visit, rest: str) -> Answer:
 def is_typed(visit: Visit, run: Run) -> bool:
     """Whether a ballot was taken by the question for one, below which its form stood."""
     asked = first(visit.form, "asked")
-    question = run.question
+    question = run.prompt
     if question is None or question.kind != "ballot" or not is_number(asked):
         return False
     return run.type(desks.line_of(visit.election.questions, visit.form), int(asked))

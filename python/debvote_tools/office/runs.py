@@ -43,7 +43,7 @@ DECLINED = {"yes": "n", "refused": ""}
 REPLY = re.compile(r"(\d+) (\S.*?)  ([^:]+)(?:: .*)?")
 
 
-class Question(NamedTuple):
+class Prompt(NamedTuple):
     """What a command asks: its number, which no other question of this office ever has; and of
     which kind it is (`console.Kind`).
     """
@@ -106,7 +106,7 @@ class Run:
         self.is_declined = False
         # what it wrote since the last answer: what was decided is not kept
         self.said = ""
-        self.question: Question | None = None
+        self.prompt: Prompt | None = None
         # the last ballot that was typed, and how many lines were entered
         self.ballot = ""
         self.entered = 0
@@ -136,7 +136,7 @@ class Run:
                 return ""
             if found := QUESTION.search(text):
                 self.add(text[: found.start()])
-                self.question = Question(self.next_number(), found[1], found[2])
+                self.prompt = Prompt(self.next_number(), found[1], found[2])
                 self.entered += len(replies_in(lines_of(self.said)))
                 text = text[found.end() :]
             whole, asks, rest = text.partition(ASKS)
@@ -153,7 +153,7 @@ class Run:
             shutil.rmtree(folder, ignore_errors=True)
         with self.changed:
             self.add(unread)
-            self.question = None
+            self.prompt = None
             if self.process.stdin is not None:
                 with contextlib.suppress(OSError):
                     self.process.stdin.close()
@@ -176,7 +176,7 @@ class Run:
         asks, done = self.task.places
         if self.next is not None:
             return self.next.place
-        if asks is not None and self.question:
+        if asks is not None and self.prompt:
             return f"{asks}?run={self.number}"
         if done is not None and self.is_done:
             return f"{done}?done={self.number}"
@@ -185,7 +185,7 @@ class Run:
     def wait(self, seconds: float) -> None:
         """Waits until it asks something, or has ended."""
         with self.changed:
-            self.changed.wait_for(lambda: self.question or self.status is not None, seconds)
+            self.changed.wait_for(lambda: self.prompt or self.status is not None, seconds)
 
     # ---- what it is told
     def type(self, text: str, number: int) -> bool:
@@ -193,11 +193,11 @@ class Run:
         question than that which somebody saw is never answered.
         """
         with self.changed:
-            question = self.question
+            question = self.prompt
             is_one_line = text.isprintable() and len(text) <= LONGEST
             if question is None or question.number != number or not is_one_line:
                 return False
-            self.question = None
+            self.prompt = None
             self.said = ""
             self.is_declined = question.kind in DECLINED and text == DECLINED[question.kind]
             if question.kind == "ballot":
@@ -316,7 +316,7 @@ class Runs:
 
     def waiting(self) -> list[Run]:
         """Those that wait for an answer, but for desks."""
-        return [run for run in self.running() if run.question and run.words[0] != "desk"]
+        return [run for run in self.running() if run.prompt and run.words[0] != "desk"]
 
     def running(self) -> list[Run]:
         with self.lock:

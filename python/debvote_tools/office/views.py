@@ -61,7 +61,7 @@ def state_of(election: Election) -> Values:
         "history": history,
         "questions": questions,
         "is_over": history.until is not None and times.now() >= history.until,
-        "doubts": [f"{doubt.file}: {doubt.reason}" for doubt in election.opened.doubts()],
+        "doubts": [f"{doubt.file}: {doubt.reason}" for doubt in election.open_book.doubts()],
         "results": results_of(election, history, election.decided if questions else None),
         "result_place": published_place(election, history),
         "dues": dues,

@@ -85,7 +85,7 @@ class Visit:
         read.
         """
         if "election" in vars(self):
-            vars(self).pop("election").opened.connection.close()
+            vars(self).pop("election").open_book.connection.close()
             self.office.reading.release()
 
     def wait(self, run: Run) -> None:

@@ -12,8 +12,8 @@ from debvote_tools.call.call import CallData, current_call
 from debvote_tools.cli.arguments import demand_reason, has_reason
 from debvote_tools.cli.faults import Fault, bad_words, stop_at
 from debvote_tools.election import LETTERS, RESULT_LETTER, Election, History
-from debvote_tools.inbox.asked import ASKING, unasked_fault, with_lost_records
-from debvote_tools.inbox.asking import ask_for
+from debvote_tools.inbox.last_asking import ASKING, unasked_fault, with_lost_records
+from debvote_tools.inbox.box_asking import ask_for
 from debvote_tools.inbox.fates import COUNTS, NOBODY, Fate, fates_of, told_of
 from debvote_tools.inbox.rules import LetterOutcome
 from debvote_tools.inbox.stopping import pending_letters, what_stops

@@ -14,7 +14,7 @@ from collections.abc import Iterable, Iterator
 
 from debvote_tools.book.outgoing import REFUSED, TAKEN, OutgoingLetter
 from debvote_tools.cli.faults import Fault, Status
-from debvote_tools.patience import within
+from debvote_tools.timeout import within
 
 # in seconds: for each answer of the server, and for the whole conversation about a letter
 PATIENCE = 60

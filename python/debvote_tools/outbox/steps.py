@@ -31,7 +31,7 @@ from debvote_tools.election import (
     Election,
     History,
 )
-from debvote_tools.inbox.asked import asked_last, has_page_of_now, last_box, unasked_fault
+from debvote_tools.inbox.last_asking import asked_last, has_page_of_now, last_box, unasked_fault
 from debvote_tools.inbox.stopping import Pending, cases_of, pending_of
 from debvote_tools.outbox.reached import NO_LETTER, page_since, unreached_and_printed
 from debvote_tools.poll.questions import POLL_FILE

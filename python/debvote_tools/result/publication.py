@@ -31,7 +31,7 @@ from debvote_tools.debvote import casting_words
 from debvote_tools.election import TELLERS, Election, Fixed, History, fixed_by
 from debvote_tools.files import sha256_of
 from debvote_tools.grouping import grouped
-from debvote_tools.inbox.asked import is_unasked_since_end, other_pages, with_lost_records
+from debvote_tools.inbox.last_asking import is_unasked_since_end, other_pages, with_lost_records
 from debvote_tools.inbox.lines import name_in
 from debvote_tools.inbox.stopping import (
     BOX,

@@ -29,7 +29,7 @@ from debvote_tools.text.times import time_in_words
 
 from tests.support import elections, letters, page_parts, sealing
 from tests.support.boxes import link_in
-from tests.support.called import LettersTest
+from tests.support.election_books import LettersTest
 from tests.support.questions import QuestionsTest, in_words, one_line
 from tests.support.web_host import Liar, answered
 

@@ -21,7 +21,7 @@ from debvote_tools.poll.sealed import read_plain, with_roll
 from debvote_tools.text.language import LANGUAGES, language_of
 
 from tests.support import page_parts
-from tests.support.calls import (
+from tests.support.call_examples import (
     ADDRESS,
     CALL,
     CODES,

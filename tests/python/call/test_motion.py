@@ -4,7 +4,7 @@ import html
 
 from debvote_tools.text.motions import WORDS
 
-from tests.support.called import CalledTest
+from tests.support.election_books import CalledTest
 from tests.support.elections import members_of
 
 MOTION = """title = "The fee"

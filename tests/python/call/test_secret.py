@@ -39,17 +39,17 @@ from debvote_tools.poll.questions import LABELS, Questions
 from debvote_tools.poll.sealed import read_plain
 from debvote_tools.text.language import LANGUAGES, language_of
 
-from tests.support import calls
+from tests.support import call_examples
 from tests.support.at_browser import NEEDS_BROWSER, Window
-from tests.support.calls import ROLL, alone
+from tests.support.call_examples import ROLL, alone
 from tests.support.letters import letter, names, parsed
 
 CODES = {name: f"{number:x}" * 32 for number, name in enumerate(ROLL, start=10)}
 ALIASES = {name: alias_of(code, name) for name, code in CODES.items()}
 NAMES = {"options": ("At the lake", "72 Euro"), "ratios": (1, 3), "explanations": ("Nice", "")}
-POLL = dataclasses.replace(calls.POLL, **NAMES, address=None, secret=True)
+POLL = dataclasses.replace(call_examples.POLL, **NAMES, address=None, secret=True)
 CALL = dataclasses.replace(
-    calls.CALL, questions=alone(POLL), to="v@example.org", at=None, has_aliases=True
+    call_examples.CALL, questions=alone(POLL), to="v@example.org", at=None, has_aliases=True
 )
 
 

@@ -12,7 +12,7 @@ from debvote_tools.election import LETTER_TEXT
 from debvote_tools.poll.sealed import read_plain
 
 from tests.support import elections
-from tests.support.called import CalledTest
+from tests.support.election_books import CalledTest
 from tests.support.letters import letter
 
 UNTIL = "--until '2026-12-04 18:00' --zone Europe/Berlin"

@@ -12,7 +12,7 @@ from debvote_tools.commands import close
 from debvote_tools.result import folder as result_folder
 
 from tests.support import elections
-from tests.support.called import LettersTest
+from tests.support.election_books import LettersTest
 from tests.support.letters import letter
 from tests.support.terminal import Terminal
 

@@ -11,7 +11,7 @@ from debvote_tools.poll.sealed import SealedPoll
 from debvote_tools.result.casting import castings_in
 
 from tests.support import elections
-from tests.support.called import CalledTest
+from tests.support.election_books import CalledTest
 
 # a tie without the last line
 WON = "ada 1,2,4,3\nben 2,1,4,3\ncleo 1,2,4,3\ndan 2,1,4,3\neve 1,2,4,3\n"

@@ -7,7 +7,7 @@ import sys
 import time
 
 from tests.support import elections
-from tests.support.called import HALL, LAKE, CalledTest
+from tests.support.election_books import HALL, LAKE, CalledTest
 from tests.support.letters import OTHER_RANKS, RANKS
 from tests.support.terminal import Terminal
 

@@ -6,7 +6,7 @@ import shutil
 from debvote_tools.poll.sealed import read_plain
 
 from tests.support import elections
-from tests.support.called import CalledTest
+from tests.support.election_books import CalledTest
 
 FEE = 'title = "Raise the fee"\noptions = ["Yes"]\nratios = [1]\ndefault = "No"\nquorum = 0\n'
 POLLS = {"A": FEE, "B": elections.POLL, "C": FEE.replace("Raise the fee", "A new roof")}

@@ -6,7 +6,7 @@ import unittest
 from debvote_tools.files import TABLE_LIMIT
 
 from tests.support import elections
-from tests.support.called import CalledTest
+from tests.support.election_books import CalledTest
 from tests.support.terminal import Terminal
 
 ROWS = elections.members_of(elections.NAMES).splitlines()[1:]

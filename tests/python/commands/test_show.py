@@ -4,7 +4,7 @@ import re
 
 from debvote_tools.book import queries
 
-from tests.support.called import HALL, LAKE, CalledTest
+from tests.support.election_books import HALL, LAKE, CalledTest
 from tests.support.letters import OTHER_RANKS, RANKS
 
 

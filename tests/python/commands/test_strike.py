@@ -3,7 +3,7 @@
 import shlex
 
 
-from tests.support.called import LAKE, CalledTest
+from tests.support.election_books import LAKE, CalledTest
 from tests.support.letters import OTHER_RANKS, RANKS
 from tests.support.terminal import Terminal
 

@@ -4,7 +4,7 @@ import re
 
 
 from tests.support import elections
-from tests.support.called import HALL, LAKE, CalledTest
+from tests.support.election_books import HALL, LAKE, CalledTest
 from tests.support.letters import OTHER_RANKS, RANKS
 from tests.support.questions import QuestionsTest
 from tests.support.terminal import Terminal

@@ -13,7 +13,7 @@ from debvote_tools.files import LINES_LIMIT
 from debvote_tools.inbox import entering
 
 from tests.support import elections
-from tests.support.called import HALL, LAKE, CalledTest
+from tests.support.election_books import HALL, LAKE, CalledTest
 from tests.support.letters import OTHER_RANKS, RANKS, rows
 
 RIGHT = (

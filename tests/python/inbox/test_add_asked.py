@@ -7,7 +7,7 @@ import subprocess
 import sys
 
 from tests.support import elections
-from tests.support.called import LAKE, CalledTest
+from tests.support.election_books import LAKE, CalledTest
 from tests.support.letters import OTHER_RANKS, RANKS
 from tests.support.terminal import Terminal
 

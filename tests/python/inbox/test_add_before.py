@@ -4,7 +4,7 @@ import itertools
 
 from debvote_tools.book import queries
 
-from tests.support.called import CalledTest
+from tests.support.election_books import CalledTest
 from tests.support.letters import OTHER_RANKS, RANKS
 
 MONDAY = "Ada 1,2,4,3\nben 1, 2,4,3\n"

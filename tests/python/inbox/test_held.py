@@ -6,7 +6,7 @@ from debvote_tools.commands import held
 from debvote_tools.outbox import letter_folder
 
 from tests.support import elections
-from tests.support.called import HALL, LAKE, LettersTest
+from tests.support.election_books import HALL, LAKE, LettersTest
 from tests.support.letters import (
     HTML,
     MARK,

@@ -8,7 +8,7 @@ from debvote_tools.election import POLL_WITH_NAMES
 from debvote_tools.inbox import entering, signature
 
 from tests.support import elections, pgp
-from tests.support.called import LAKE, LettersTest
+from tests.support.election_books import LAKE, LettersTest
 from tests.support.letters import OTHER_RANKS as OTHER, OWN, RANKS, ballot, letter, mailbox, marked
 from tests.support.terminal import Terminal
 

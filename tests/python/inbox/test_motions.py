@@ -17,7 +17,7 @@ from debvote_tools.text.motions import RANKS, WORDS, Words, words_of
 
 from tests.python.commands.test_desk import CAST, TerminalTest
 from tests.support import outgoing
-from tests.support.called import LettersTest
+from tests.support.election_books import LettersTest
 from tests.support.elections import members_of
 from tests.support.letters import (
     MARK,

@@ -3,7 +3,7 @@
 import unittest
 
 from tests.support import elections
-from tests.support.called import LettersTest
+from tests.support.election_books import LettersTest
 from tests.support.letters import (
     BALLOT,
     HTML,

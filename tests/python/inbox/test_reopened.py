@@ -4,7 +4,7 @@ from unittest import mock
 
 from debvote_tools.inbox import entering
 
-from tests.support.called import LettersTest
+from tests.support.election_books import LettersTest
 from tests.support.letters import BALLOT, OTHER, OTHER_RANKS, RANKS, letter
 from tests.support.terminal import Terminal
 

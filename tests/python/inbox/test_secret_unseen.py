@@ -4,7 +4,7 @@ import re
 import shlex
 
 from tests.support import elections
-from tests.support.called import CalledTest, LettersTest
+from tests.support.election_books import CalledTest, LettersTest
 from tests.support.letters import answer, mailbox
 from tests.support.terminal import Terminal
 

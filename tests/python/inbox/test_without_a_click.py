@@ -7,7 +7,7 @@ import re
 
 from tests.support import elections
 from tests.support.at_browser import NEEDS_BROWSER, Window
-from tests.support.called import LettersTest
+from tests.support.election_books import LettersTest
 from tests.support.letters import HTML, letter
 from tests.support.questions import QuestionsTest
 

@@ -11,7 +11,7 @@ import time
 import unittest
 
 from tests.support import elections
-from tests.support.called import CalledTest
+from tests.support.election_books import CalledTest
 
 SSHD = shutil.which("sshd", path="/usr/sbin:/usr/bin")
 

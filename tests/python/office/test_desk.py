@@ -9,7 +9,7 @@ import time
 from debvote_tools.text.motions import WORDS
 
 from tests.support import elections, offices
-from tests.support.called import CalledTest
+from tests.support.election_books import CalledTest
 from tests.support.elections import ElectionTest
 from tests.support.questions import FEE, QuestionsTest
 

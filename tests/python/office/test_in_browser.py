@@ -6,7 +6,7 @@ from debvote_tools.text.language import LANGUAGES
 
 from tests.support import offices
 from tests.support.at_browser import NEEDS_BROWSER
-from tests.support.called import LettersTest
+from tests.support.election_books import LettersTest
 from tests.support.elections import ElectionTest
 from tests.support.letters import ballot, letter, mailbox
 from tests.support.questions import FEE, QuestionsTest

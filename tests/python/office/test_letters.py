@@ -8,7 +8,7 @@ from debvote_tools.inbox import judging
 from debvote_tools.office import views
 
 from tests.support import offices
-from tests.support.called import LettersTest
+from tests.support.election_books import LettersTest
 from tests.support.elections import POLL
 from tests.support.letters import ballot, letter, mailbox
 from tests.support.program import PROGRAM

@@ -18,7 +18,7 @@ from debvote_tools.outbox import due
 from debvote_tools.outbox.letter_folder import in_place
 
 from tests.support import elections
-from tests.support.called import LAKE
+from tests.support.election_books import LAKE
 from tests.support.letters import OTHER_RANKS, RANKS, TEN, TITLE, letter, mailbox, marked
 from tests.support.outgoing import AT, OutTest, one_line, parsed
 

@@ -18,7 +18,7 @@ from debvote_tools.poll.sealed import SealedPoll
 from debvote_tools.text.language import LANGUAGES, language_of
 
 from tests.python.outbox.test_words import texts
-from tests.support.calls import KINDS, POLL, UNTIL, alone
+from tests.support.call_examples import KINDS, POLL, UNTIL, alone
 from tests.support.outgoing import OutTest
 from tests.support.program import PROGRAM
 from tests.support.questions import FEE, QuestionsTest

@@ -19,7 +19,7 @@ from debvote_tools.cli.faults import Fault
 from debvote_tools.outbox import smtp
 
 from tests.support import elections, terminal
-from tests.support.called import LAKE
+from tests.support.election_books import LAKE
 from tests.support.letters import OTHER_RANKS, RANKS, TEN, letter
 from tests.support.outgoing import MailServer, PlainServer, SendTest, one_line, parsed
 

@@ -30,7 +30,7 @@ from debvote_tools.text.language import LANGUAGES, language_of
 from debvote_tools.text.rendering import one_line as on_one_line, render_page, resources
 
 from tests.support.at_browser import BROWSER, Window
-from tests.support.calls import CALL, alone
+from tests.support.call_examples import CALL, alone
 from tests.support.outgoing import parsed
 
 TIME = datetime.datetime(2026, 11, 23, 10, tzinfo=datetime.UTC)

@@ -21,9 +21,9 @@ from debvote_tools.poll.sealed import with_roll
 from debvote_tools.text.language import LANGUAGES, language_of
 from debvote_tools.text.rendering import checksum_source
 
-from tests.support import calls, sealing
+from tests.support import call_examples, sealing
 from tests.support.at_browser import NEEDS_BROWSER, Window
-from tests.support.calls import KINDS, POLL, ROLL, alone
+from tests.support.call_examples import KINDS, POLL, ROLL, alone
 from tests.support.web_host import END as END_OF_RECORD
 from tests.support.web_host import (
     FIRST,
@@ -37,7 +37,7 @@ from tests.support.web_host import (
 
 # no test is after its end
 END = datetime.datetime(2099, 12, 4, 18, tzinfo=datetime.UTC)
-CALL = replace(calls.CALL, until=END, box_key=KEY)
+CALL = replace(call_examples.CALL, until=END, box_key=KEY)
 MARK = CALL.questions.mark
 OWNS = {name: f"23456789a{sign}" for name, sign in zip(ROLL, "abcd")}
 LINKS = {name: third_part(KEY, name, own) for name, own in OWNS.items()}

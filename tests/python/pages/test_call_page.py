@@ -17,7 +17,7 @@ from debvote_tools.poll.sealed import SealedPoll, with_roll
 from debvote_tools.text.language import LANGUAGES, language_of
 
 from tests.support.at_browser import LONE_NUMBERS, NEEDS_BROWSER, Window
-from tests.support.calls import CALL, KINDS, POLL, SECRET, WITH_CODES, alone
+from tests.support.call_examples import CALL, KINDS, POLL, SECRET, WITH_CODES, alone
 from tests.support.looks import contrast
 from tests.support.program import PROGRAM
 

@@ -13,13 +13,13 @@ from debvote_tools.text.language import LANGUAGES, language_of
 from debvote_tools.text.motions import RANKS, WORDS
 
 from tests.python.pages.test_call_page import PageTest, text_of
-from tests.support import calls
+from tests.support import call_examples
 from tests.support.publishing import PLAIN_POLL, ResultPageTest, plain_room
 
 POLL = SealedPoll("The fee", ("Raise it",), (1,), "No, as it is", 0, ("ada", "ben"), motion=True)
 CALL = replace(
-    calls.CALL,
-    questions=calls.alone(POLL),
+    call_examples.CALL,
+    questions=call_examples.alone(POLL),
     quorum_votes={"": 0},
     until=None,
     to="vote@club.example",

@@ -20,7 +20,7 @@ from tests.python.call import test_sealed_ballots as vector
 from tests.python.pages.test_box_page import CALL, MARK, NOW, OWNS, PLACES, WORDS
 from tests.python.pages.test_box_page import BoxPageTest, RealBoxTest, page_with_box
 from tests.support import sealing
-from tests.support.calls import SECRET
+from tests.support.call_examples import SECRET
 from tests.support.web_host import (
     KEY,
     NEEDS_PHP,

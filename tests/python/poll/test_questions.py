@@ -12,8 +12,8 @@ from debvote_tools.election import Sealed
 from debvote_tools.files import sha256_of
 from debvote_tools.poll.questions import LABELS, Questions, read_questions
 
-from tests.support import calls
-from tests.support.calls import CALL, KINDS, POLL, ROLL
+from tests.support import call_examples
+from tests.support.call_examples import CALL, KINDS, POLL, ROLL
 
 FEE = dataclasses.replace(
     POLL, title="Raise the fee", options=("Yes",), ratios=(2,), default="No", quorum=0
@@ -23,7 +23,7 @@ SEVERAL = Questions({"A": FEE, "B": POLL, "C": FEE}, "Assembly & 2026")
 
 class Value(unittest.TestCase):
     def test_one_question_is_its_poll(self):
-        one = calls.alone(POLL)
+        one = call_examples.alone(POLL)
         self.assertEqual(
             (one.name, one.checksum, one.mark, one.is_several),
             (POLL.name, POLL.checksum, POLL.checksum[:16], False),
@@ -74,7 +74,9 @@ class Value(unittest.TestCase):
         self.assertEqual(
             list(Sealed(again, again).files()), ["poll A", "poll B", "poll C", "motion B", "title"]
         )
-        self.assertEqual(list(Sealed(calls.alone(POLL), calls.alone(POLL)).files()), ["poll"])
+        self.assertEqual(
+            list(Sealed(call_examples.alone(POLL), call_examples.alone(POLL)).files()), ["poll"]
+        )
 
     def test_labels(self):
         self.assertEqual(LABELS, "".join(sorted({*"ABCDEFGHIJKLMNOPQRSTUVWXYZ"} - {"I", "O"})))
@@ -139,7 +141,7 @@ class Aliases(unittest.TestCase):
         self.assertEqual(alias_in("", Elector(1, "c" * 32, 1, "", ())), "c" * 32)
 
     def test_slips_and_the_table_of_codes(self):
-        call = dataclasses.replace(calls.SECRET, at=None, questions=SEVERAL)
+        call = dataclasses.replace(call_examples.SECRET, at=None, questions=SEVERAL)
         page = slips(call, self.electors).decode()
         self.assertIn("<code>ada<br>A _,_<br>B _,_,_,_<br>C _,_</code>", page)
         rows = codes_csv(call, self.electors).decode().splitlines()

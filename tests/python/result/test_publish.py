@@ -21,7 +21,7 @@ from debvote_tools.text.language import ENGLISH
 from debvote_tools.text.times import date_in_words
 
 from tests.support import elections, page_parts as pages
-from tests.support.called import CalledTest
+from tests.support.election_books import CalledTest
 from tests.support.terminal import Terminal
 
 POLL = """title = "Wo wir uns treffen: Größe"

@@ -1,7 +1,7 @@
 #!/usr/bin/python3
 """Says which names are near to a name that does not exist, or how to list all.
 
-    tests/support/near.py crate NAME    ends with 0 if crates.txt has the crate, else says which are near, and ends with 1
+    tests/support/near_names.py crate NAME    ends with 0 if crates.txt has the crate, else says which are near, and ends with 1
 """
 
 import difflib

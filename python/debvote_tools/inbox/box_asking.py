@@ -11,7 +11,7 @@ from debvote_tools.book import queries
 from debvote_tools.cli.console import count_of, private, tell
 from debvote_tools.cli.faults import Fault
 from debvote_tools.election import Election
-from debvote_tools.inbox.asked import AFTER_CLOSE, unasked_fault
+from debvote_tools.inbox.last_asking import AFTER_CLOSE, unasked_fault
 from debvote_tools.inbox.stopping import pending_letters
 from debvote_tools.text import times
 

@@ -132,7 +132,7 @@ def since_when_early(election: Election, history: History) -> datetime.datetime:
     """Since when the box has to be asked before an early close, until which ballots come at any
     time: by this run, and lately by the clock of the host, too.
     """
-    is_by_this_run = any(act.number in election.opened.own_acts for act in history.askings[-1:])
+    is_by_this_run = any(act.number in election.open_book.own_acts for act in history.askings[-1:])
     return now() - FRESH if is_by_this_run else now()
 
 
