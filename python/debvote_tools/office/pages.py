@@ -199,15 +199,15 @@ def run(visit: Visit, rest: str) -> Answer:
     if shown.words[0] == "desk":
         raise Refused()
     lines = [line for one in row_of(shown) for line in lines_of(one.said)]
-    question = shown.prompt
+    prompt = shown.prompt
     is_over = shown.status is not None
     if is_over and shown.words[0] == "show" and visit.election.questions.is_secret:
         shown.said = ""
     values = {
         "run": shown,
         "lines": lines,
-        "question": question,
-        "refreshes": not (question or is_over),
+        "prompt": prompt,
+        "refreshes": not (prompt or is_over),
     }
     if shown.words[0] == "check":
         values |= views.previews_of(visit.election)

@@ -180,8 +180,8 @@ def desk(visit: Visit, rest: str) -> Answer:
 def is_typed(visit: Visit, run: Run) -> bool:
     """Whether a ballot was taken by the question for one, below which its form stood."""
     asked = first(visit.form, "asked")
-    question = run.prompt
-    if question is None or question.kind != "ballot" or not is_number(asked):
+    prompt = run.prompt
+    if prompt is None or prompt.kind != "ballot" or not is_number(asked):
         return False
     return run.type(desks.line_of(visit.election.questions, visit.form), int(asked))
 

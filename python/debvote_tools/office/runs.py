@@ -193,14 +193,14 @@ class Run:
         question than that which somebody saw is never answered.
         """
         with self.changed:
-            question = self.prompt
+            prompt = self.prompt
             is_one_line = text.isprintable() and len(text) <= LONGEST
-            if question is None or question.number != number or not is_one_line:
+            if prompt is None or prompt.number != number or not is_one_line:
                 return False
             self.prompt = None
             self.said = ""
-            self.is_declined = question.kind in DECLINED and text == DECLINED[question.kind]
-            if question.kind == "ballot":
+            self.is_declined = prompt.kind in DECLINED and text == DECLINED[prompt.kind]
+            if prompt.kind == "ballot":
                 self.ballot = text
             return self.put(text)
 

@@ -235,7 +235,7 @@ class Drafts(ElectionTest):
         office.post("draft", **{**fields, **motion, "secret": "2", "digest": digests})
         # nobody holds a vote without tellers who has chosen some
         self.refused("check", "tellers.txt: it is empty", status=2)
-        self.assertIn("do/call?box=1", office.page())
+        self.assertIn("do/call?back=state&amp;box=1", office.page())
         self.assertIn("call --box --at URL", self.done("status").output)
         text = office.page("draft")
         self.assertIn('value="2" checked', text)

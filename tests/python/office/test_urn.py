@@ -45,7 +45,7 @@ class WholeVote(teller_elections.TellerElectionTest):
             for step, name in enumerate(tellers.points(), start=1):
                 self.open_by(page, step, name)
             page.go("")
-            page.push("Count", "count", "Go on", "Publish the result", "publish")
+            page.push("Count", "Publish the result")
             page.go("")
             self.assertIn("HAS WON At the lake", page.seen())
             self.assertEqual(page.faults, [])
@@ -55,20 +55,20 @@ class WholeVote(teller_elections.TellerElectionTest):
         page.ask("document.querySelector('[name=secret][value=\"2\"]').click()")
         page.push("Save it, and read the members", tellers=tellers.tellers_file())
         page.go("")
-        page.push("Check the questions", "check")
+        page.push("Check the questions")
         self.assertIn("carla bf6e-3480-d3f0-5753, dora e843-5051-d2bd-ab7e", page.seen())
-        page.push("Go on", "Call for votes")
-        page.push("call", **CALL, at=self.host.at)
+        page.push("Call for votes")
+        page.push("Do it", **CALL, at=self.host.at)
         self.upload()
-        page.push("Go on", "Ask the web host whether it is there", "add")
+        page.push("Ask the web host whether it is there")
         page.go("do/letters?kind=call")
-        page.push("letters")
+        page.push("Do it")
 
     def vote(self, page: Clicks, office: offices.Office):
         for name, ranks in RANKS.items():
             self.click(name, ranks)
         page.go("")
-        page.push("Fetch the clicks", "add", "Yes")
+        page.push("Fetch the clicks", "Enter these ballots")
         page.go("desk/1")
         page.push("Begin to enter ballots")
         self.assertFalse(page.ask("document.querySelector('.rank, .keys')"))
@@ -84,15 +84,15 @@ class WholeVote(teller_elections.TellerElectionTest):
     def close_by(self, page: Clicks):
         wrong = SLIPS.replace("2,1,3,4", "2,1", 1)
         page.push("Close it early")
-        page.push("close", paper=wrong)
+        page.push("Do it", paper=wrong)
         self.assertIn("these lines are not the ranks of a slip: 1", page.seen())
+        [slips] = re.findall(r"--paper=(\S+)", page.seen())
+        self.assertFalse(pathlib.Path(slips).exists())
         # nobody types all slips anew
         page.push("Try again otherwise")
         self.assertEqual(page.ask("document.querySelector('[name=paper]').value"), wrong)
-        page.push("close", "Yes", paper=SLIPS)
+        page.push("Do it", "Yes", paper=SLIPS)
         self.assertIn("Closed: 10 lines came in time", page.seen())
-        [slips] = re.findall(r"--paper=(\S+)", page.seen())
-        self.assertFalse(pathlib.Path(slips).exists())
 
     def open_by(self, page: Clicks, step: int, name: str):
         """The first list is pasted, the second one chosen as a file."""
@@ -104,7 +104,7 @@ class WholeVote(teller_elections.TellerElectionTest):
             node = page.tell("Runtime.evaluate", expression="document.getElementById('File-lists')")
             node = node["result"]["objectId"]
             page.tell("DOM.setFileInputFiles", files=[str(file)], objectId=node)
-        page.push("tellers", lists=file.read_text() if step == 1 else "")
+        page.push("Do it", lists=file.read_text() if step == 1 else "")
         self.assertIn(f"list-{step}.txt: 10 ballots, 0 refused", page.seen())
 
 
