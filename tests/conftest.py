@@ -24,6 +24,7 @@ LONGEST = [
     "SecretByClicks",
     "Many",
     "LargestTest",
+    "Meeting",
     "Damaged",
     "In_",
     "Lines",

@@ -12,6 +12,10 @@ from tests.support.at_browser import Gone, Window
 # what has not come by then does not come
 SECONDS = 120
 
+# whether a page is whole, does not follow a command any more, and has the focus where it begins
+ARRIVED = """document.readyState === "complete" && !document.querySelector("meta[http-equiv=refresh]")
+  && (document.activeElement !== document.body || !document.querySelector("[autofocus]"))"""
+
 # scrolls to the first of these nodes that is seen, and returns where it is pressed, whether that
 # leads to another page, its address, and whether nothing lies above it
 PLACE = """((nodes) => {
@@ -67,9 +71,7 @@ class Page(Window):
         self.arrived()
 
     def arrived(self):
-        self.until(
-            "document.readyState === 'complete' && !document.querySelector('meta[http-equiv=refresh]')"
-        )
+        self.until(ARRIVED)
 
     def enter(self, key: str = "Enter"):
         """Presses a key that leads to another page."""

@@ -1,4 +1,4 @@
-"""What both programs say and ask, and the words that several commands say.
+"""Standard output, standard error and answers; and the words that several commands say.
 
 Only this module writes to standard output and standard error, and reads an answer.
 Characters that steer a terminal are replaced by `written` in all that is printed; what debvote

@@ -1,4 +1,4 @@
-"""The command `reopen`, which opens the vote again after a close."""
+"""The command `reopen`, which opens the vote again, and names late ballots that may be in time."""
 
 from collections.abc import Iterator
 

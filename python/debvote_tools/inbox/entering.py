@@ -1,4 +1,4 @@
-"""The change that enters lines, with the replies to them; and whether they come in time."""
+"""What commands that enter lines share: the change, the replies, and whether lines come in time."""
 
 import dataclasses
 from collections.abc import Iterable, Sequence

@@ -41,7 +41,7 @@ class Reason(enum.Enum):
     """
 
     # the secretary decided. An elector whose ballot was entered from it reads of the ballot instead
-    # (`told_of` in `outbox/due.py`)
+    # (`told_of` in `fates.py`)
     TAKEN_BACK = "its ballot was taken back", LOOKED_AT
     PUT_BACK = "it was put back to wait", LOOKED_AT
     SET_ASIDE = "it was set aside", "The reason: the secretary has looked at it, and set it aside."

@@ -1,4 +1,4 @@
-"""Commands of `debvote-election` that run for the page.
+"""Commands of `debvote-election` that run as processes for the page.
 
 Each is the program itself, in a process of its own, with the checks, questions and answers that it
 has at a terminal: the page shows what it writes, and types what is pressed. No transaction is open
