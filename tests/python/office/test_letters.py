@@ -131,7 +131,7 @@ class Letters(LettersTest):
     def test_letters_are_judged_once_for_the_overview(self):
         self.add(letter("ada", "hello"))
         election = Election(self.folder, PROGRAM.parent)
-        self.addCleanup(election.opened.connection.close)
+        self.addCleanup(election.open_book.connection.close)
         with mock.patch.object(judging, "judge_all", wraps=judging.judge_all) as judge:
             self.assertEqual(views.state_of(election)["state"]["waiting"], 1)
         self.assertEqual(judge.call_count, 1)
