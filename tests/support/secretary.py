@@ -29,16 +29,18 @@ PLACE = """((nodes) => {
 PRESSED = """((texts) => [...document.querySelectorAll("a, button, summary")].filter((node) =>
   texts.some((text) => new RegExp(`^${text}$`).test(node.textContent.replace(/\\s+/g, " ").trim()))))"""
 
-# what the pages say themselves: not what commands said or what people wrote
-OWN_TEXT = """(() => {
-  const others = ".said, .found, bdi, b, code, pre, textarea, .asks, .doubts, .reason, .end, .roll, .people, .at-do label, .at-do h1, .at-all .ballots, p.question, .ballots";
+# where people wrote something, or debvote, or where faults stand
+OTHERS = "bdi, b, code, pre, textarea, .asks, .doubts, .end, .roll, .people, .ballots"
+# what pages and commands say
+OWN_TEXT = """((others) => {
   const walker = document.createTreeWalker(document.body, NodeFilter.SHOW_TEXT), texts = [];
   while (walker.nextNode()) {
     const node = walker.currentNode.parentElement;
     if (node.checkVisibility() && !node.closest(others)) texts.push(walker.currentNode.data);
   }
   return texts.join(" | ");
-})()"""
+})"""
+PATH = re.compile(r"\S*/\S*")
 # words that no sentence of the other languages has
 ENGLISH = re.compile(
     r"(?i)\b(?:the|and|of|are|with|from|this|that|you|your|have|been|by|to|yes|letters?|ballots?|is)\b"
@@ -107,11 +109,12 @@ class Secretary(Page):
         self.counted = collections.Counter[tuple[str, str]]()
         self.part = ""
         self.english: dict[str, str] = {}
+        self.left_out = OTHERS
 
     def arrived(self):
         super().arrived()
         if self.ask("document.documentElement.lang") != "en":
-            text = str(self.ask(OWN_TEXT))
+            text = PATH.sub("", str(self.ask(f"{OWN_TEXT}({json.dumps(self.left_out)})")))
             self.english |= {text: word[0] for word in ENGLISH.finditer(text)}
 
     def count(self):

@@ -7,10 +7,13 @@ from debvote_tools.cli.console import say, tell
 from debvote_tools.commands.export import demand_new
 from debvote_tools.election import Election
 from debvote_tools.outbox.steps import Step, tell_next
+from debvote_tools.text.language import marked
 
 
 # what the key of the box gives, which is in each copy since the call
-WHO_HAS_IT = "whoever has a copy opens all ballots of the page, also those to come, and can vote in each name"
+WHO_HAS_IT = marked(
+    "whoever has a copy opens all ballots of the page, also those to come, and can vote in each name"
+)
 
 
 class Arguments(Options):
@@ -33,5 +36,5 @@ def backup(election: Election, arguments: Arguments) -> None:
         )
     )
     if election.history().announced("box"):
-        tell(f"Keep it as safe as the book itself: {WHO_HAS_IT}.")
+        tell(say("Keep it as safe as the book itself: {why}.", say(WHO_HAS_IT)))
     tell_next(election)

@@ -366,7 +366,8 @@ def server_of(history: History, arguments: Arguments) -> Server:
             raise bad_words("--send", "no server is named", "give --server HOST[:PORT]")
         user = user or detail.get("user")
         server = dataclasses.replace(smtp.server_of(detail["server"]), is_remembered=True)
-        tell(f"To the server of the last letters: {server}{f', user {user}' if user else ''}")
+        by = f", {say('user {name}', user)}" if user else ""
+        tell(f"{say('To the server of the last letters: {server}', server)}{by}")
     if user is not None:
         password = password_of(user, server, arguments.password_file)
         return dataclasses.replace(server, user=user, password=password)

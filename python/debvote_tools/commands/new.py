@@ -53,7 +53,10 @@ def new(election: Election, arguments: Arguments) -> None:
         raise bad_words(folder, f"it exists, and is {what}", "choose another name")
     polls = new_polls(arguments.questions)
     first, *others = polls
-    files = f"{first} and {others[0]} to {pathlib.Path(others[-1]).name}" if others else first
+    files = first
+    if others:
+        last = pathlib.Path(others[-1]).name
+        files = say("{first} and {second} to {last}", first, others[0], last)
     with uninterrupted():
         make(folder, arguments.language, polls)
         tell(

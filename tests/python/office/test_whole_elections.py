@@ -151,6 +151,8 @@ class Meeting(ByClicks):
     def test_an_evening(self):
         self.polls = OPEN
         with played(self, "Grün", len(OPEN)) as at:
+            # what commands say of web boxes and secret votes alone is English
+            at.left_out += ", .said, .found"
             draft(at, OPEN, ROWS)
             self.call(at)
             self.clicks(MEMBERS[:11])
@@ -252,6 +254,7 @@ class Secret(ByClicks):
     def test_two_secret_questions(self):
         self.polls = SECRET
         with played(self, "Käthe Groß", len(SECRET)) as at:
+            at.left_out += ", .said, .found"
             draft(at, SECRET, ROWS, is_secret=True)
             at.click("Make the codes", "Do it")
             self.call(at, "Yes", "Yes")
@@ -273,6 +276,7 @@ class Secret(ByClicks):
 class Drawn(MeetingTest):
     def test_codes_that_are_drawn(self):
         with played(self, "Cäcilie Groß") as at:
+            at.left_out += ", .said, .found"
             who = "".join(f"{who},\n" for who in [*WHO.values()][:12])
             draft(at, {"": OPEN["B"]}, f"who,mail\n{who}", is_secret=True)
             at.click("Make the codes")
