@@ -20,7 +20,7 @@ build: ## prove and build the program, crates/debvote/out/debvote
 check: ## prove the crate CRATE=..
 	@tests/support/near_names.py crate "$(CRATE)" && cd "crates/$(CRATE)" && rt check
 
-test: ## run all tests that need no proof, in some minutes; with NAME=.. that test of the crates of tests alone
+test: ## run most tests that need no proof, in some minutes; with NAME=.. that test of the crates of tests alone
 	@if [ -z "$(NAME)" ]; then exec tests/quick; fi; \
 	crates=$$(cd crates && grep -lE "^fn \w*$(NAME)" tests_*/src/*.rt | cut -d/ -f1 | sort -u); \
 	[ -n "$$crates" ] || { echo "no test of the crates is called so: grep -A1 '#.test.' crates/*/src/*.rt lists them" >&2; exit 1; }; \

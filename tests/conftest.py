@@ -37,7 +37,7 @@ LONGEST = [
 MARKS = (
     "checked: it runs the program on each kind of input, in make test one with the checks of rt try",
     "proved: it needs the proved program, or the prover; make test leaves it out",
-    "whole: a whole election in chromium; make test leaves it out",
+    "whole: a whole election, or what takes long and is tested smaller, too; make test leaves it out",
 )
 
 
@@ -51,6 +51,10 @@ def pytest_configure(config: pytest.Config):
     if words := program.missing():
         pytest.exit(words, 2)
     os.umask(0o022)
+    # no test reaches a host that the system's certificates are for, and each run of a command reads them
+    os.environ.update(SSL_CERT_FILE=os.devnull, SSL_CERT_DIR=os.devnull)
+    # argparse looks for translations of each of its words
+    os.environ["LANGUAGE"] = "C"
     if getattr(config.option, "numprocesses", None):
         config.option.dist = "loadscope"
 

@@ -97,9 +97,15 @@ class History(NamedTuple):
 
     @property
     def handed_on(self) -> list[DoneAct]:
-        """The acts since the last close that entered lists of tellers, one each, in their order."""
-        close = self.closes[-1].number if self.closes else self.last.number
-        return [act for act in self.named("handed on") if act.number > close]
+        """The acts that entered lists of tellers, one each, in their order: after one of them no
+        vote is opened again.
+        """
+        return self.named("handed on")
+
+    @property
+    def are_all_opened(self) -> bool:
+        """Whether the tellers have opened all layers, if there are any."""
+        return len(self.handed_on) == len(self.tellers)
 
     @property
     def has_codes_on_roll(self) -> bool:

@@ -24,7 +24,9 @@ Options:
 (?P<options>(?: .*\n)+)Votes:
 (?P<votes>(?: .*\n)+)Dropped:
 (?P<dropped>(?: .*\n)+)Defeats:
-(?P<defeats>(?: .*\n)+)(?P<rounds>(?:Round .*\n(?: .*\n)*)+)(?P<last_line>Winner: (?P<winner>\d+) (?P<name>.*)|Tie: [\d ]+(?:, casting option (?P<casting_outside>\d+) is not among them)?)\n?"""
+(?P<defeats>(?: .*\n)+)(?P<rounds>(?:Round .*\n(?: .*\n)*)+)"""
+    r"(?P<last_line>Winner: (?P<winner>\d+) (?P<name>.*)"
+    r"|Tie: [\d ]+(?:, casting option (?P<casting_outside>\d+) is not among them)?)\n?"
 )
 NUMBERS = (
     "electors quorum_multiple quorum lines last_envelope valid refused voters winner casting_outside"

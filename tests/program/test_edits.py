@@ -11,7 +11,7 @@ import subprocess
 
 import pytest
 
-from tests.support import edits, kept_edits
+from tests.support import edits, kept_edits, older_kit
 from tests.support.program import ROOT
 
 SOURCE = """\
@@ -58,7 +58,7 @@ def batch_of(*tried):
 
 
 def names(found):
-    return sorted(edit.name for edit in found)
+    return " ".join(sorted(edit.name.removeprefix("apart/") for edit in found))
 
 
 # ---------------------------------------------------------------- which edits fit one check
@@ -78,38 +78,64 @@ def test_edits_of_one_body_are_apart():
         edit("next", *RIGHT_CALLER),
     ]
     batches, alone = edits.batches_of(tried, {"src/lib.rt": SOURCE})
-    assert [names(batch.functions) for batch in batches] == [
-        ["apart/called", "apart/caller"],
-        ["apart/next", "apart/other"],
-    ]
+    assert [names(batch.functions) for batch in batches] == ["called caller", "next other"]
     # a batch of one is what the kit's gate tries
-    assert names(alone) == ["apart/third"]
+    assert names(alone) == "third"
 
 
 def test_edits_that_name_no_goal_are_alone():
     tried = [edit("called", *WRONG_CALLED), edit("caller", *WRONG_CALLER[:3], None)]
     batches, alone = edits.batches_of(tried, {"src/lib.rt": SOURCE})
-    assert (batches, names(alone)) == ([], ["apart/called", "apart/caller"])
+    assert (batches, names(alone)) == ([], "called caller")
+
+
+CALLER = edit("caller", *WRONG_CALLER)
+CALL = "let few = at_most_ten("
+IMPL = "    impl Few for Three {\n        ghost most = { 3 };\n    }\n    10\n}"
+TRAIT = "pub trait Few {\n    fn few(&self) -> u8\n    {\n        3\n    }\n}\n\n/// One more"
+LAW = "pub fn law()\n    ensures { 1 ≤ 2 }\n{}\n\n/// One more"
 
 
 @pytest.mark.parametrize(
-    "why, tried",
+    "why, tried, old, new",
     [
-        ("it changes a clause", edit("a", "t ≤ 10", "t ≤ 11", "at_most_ten", "returns")),
-        ("it changes what is in no function", edit("a", "◌≤◌, ", "", "one_more", "returns")),
+        ("it changes a clause", edit("a", "t ≤ 10", "t ≤ 11", *OF_CALLED), "", ""),
+        ("it changes what is in no function", edit("a", "◌≤◌, ", "", "one_more", "a"), "", ""),
+        ("it names the goal of another", edit("a", *WRONG_CALLER[:2], *OF_CALLED), "", ""),
+        ("it can't be applied", edit("a", "many + 1", "many + 2", "one_more", "a"), "", ""),
+        ("it changes a definition", edit("a", *WRONG_CALLER, path="specs/A.antt"), "", ""),
         (
-            "it names the goal of another function",
-            edit("a", "few + 1", "few + 2", "at_most_ten", "returns"),
+            "others read it, as a ghost item",
+            edit("a", "{ 3 }", "{ 4 }", *OF_CALLED),
+            "    10\n}",
+            IMPL,
         ),
-        ("it can't be applied", edit("a", "many + 1", "many + 2", "one_more", "returns")),
         (
-            "it changes a definition",
-            edit("a", "few + 1", "few + 2", "one_more", "returns", path="specs/A.antt"),
+            "it is in a cycle",
+            CALLER,
+            "pub fn one_more",
+            "#[cycle(more)]\n#[inline]\npub fn one_more",
+        ),
+        ("it calls itself", CALLER, CALL, "let few = one_more("),
+        (
+            "it is of a trait",
+            edit("few", "        3", "        4", "few", None),
+            "/// One more",
+            TRAIT,
         ),
     ],
 )
-def test_alone(why, tried):
-    assert edits.changed_by(tried, {"src/lib.rt": SOURCE}) is None, why
+def test_alone(why, tried, old, new):
+    assert edits.changed_by(tried, {"src/lib.rt": SOURCE.replace(old, new)}) is None, why
+
+
+@pytest.mark.parametrize(
+    "old, new",
+    [(CALL, "let few = number.one_more("), ("/// One more", TRAIT), ("/// One more", LAW)],
+    ids=["a method of this name", "after a trait", "after the empty body of a law"],
+)
+def test_not_alone(old, new):
+    assert edits.changed_by(CALLER, {"src/lib.rt": SOURCE.replace(old, new)})
 
 
 HALVES = """\
@@ -154,38 +180,7 @@ def test_no_edit_names_a_function_that_another_changes(is_first):
     texts = dict.fromkeys(paths, SOURCE)
     assert all(edits.changed_by(each, texts) for each in tried)
     batches, alone = edits.batches_of(tried, texts)
-    assert (batches, names(alone)) == ([], ["apart/right", "apart/wrong"])
-
-
-def test_what_an_impl_in_a_body_says_is_in_no_body():
-    """Others read it, as its ghost items."""
-    inner = "    impl Few for Three {\n        ghost most = { 3 };\n    }\n    10\n}"
-    source = {"src/lib.rt": SOURCE.replace("    10\n}", inner)}
-    tried = edit("wrong", "{ 3 }", "{ 4 }", "at_most_ten", "returns")
-    assert edits.changed_by(tried, source) is None
-
-
-def test_functions_that_call_themselves_are_alone():
-    tried = edit("caller", *WRONG_CALLER)
-    source = SOURCE.replace("pub fn one_more", "#[cycle(more)]\n#[inline]\npub fn one_more")
-    assert edits.changed_by(tried, {"src/lib.rt": source}) is None
-    source = SOURCE.replace("let few = at_most_ten(", "let few = one_more(")
-    assert edits.changed_by(tried, {"src/lib.rt": source}) is None
-    source = SOURCE.replace("let few = at_most_ten(", "let few = number.one_more(")
-    assert edits.changed_by(tried, {"src/lib.rt": source})
-
-
-def test_bodies_of_a_trait_are_alone():
-    trait = "pub trait Few {\n    fn few(&self) -> u8\n    {\n        3\n    }\n}\n\n"
-    source = {"src/lib.rt": SOURCE.replace("/// One more", f"{trait}/// One more")}
-    assert edits.changed_by(edit("few", "        3", "        4", "few", None), source) is None
-    assert edits.changed_by(edit("caller", *WRONG_CALLER), source)
-
-
-def test_the_empty_body_of_a_law_hides_no_function():
-    law = "pub fn law()\n    ensures { 1 ≤ 2 }\n{}\n\n"
-    source = SOURCE.replace("/// One more", f"{law}/// One more")
-    assert edits.changed_by(edit("caller", *WRONG_CALLER), {"src/lib.rt": source})
+    assert (batches, names(alone)) == ([], "right wrong")
 
 
 def test_names_of_functions():
@@ -225,25 +220,78 @@ CALLED = (
 )
 GONE = "./proofs/two_more/Answers.antt:8:23: error: `returns`: it has no field `few`"
 BY_CALL = "it calls `apart::at_most_ten`, which is not proved"
-CALLER = (
+OPEN = (
     "fn apart::one_more: no proof: expected answers in ./proofs/one_more/Answers.antt; "
     "`search` did not prove `returns`"
 )
 
 
-def refused(*lines, status=1, last="logic=not-proved"):
-    batch = batch_of(edit("called", *WRONG_CALLED), edit("caller", *WRONG_CALLER))
-    return names(edits.refused_in(batch, SEED, status, "\n".join([*lines, last, ""])))
+PROVED = "fn apart::at_most_ten: proved"
+PLACE = "./proofs/one_more/Answers.antt"
 
 
-def test_refused_at_its_goal():
-    assert refused(CALLED, f"{CALLER}; {BY_CALL}") == ["apart/called", "apart/caller"]
-    assert refused(CALLED, "fn apart::one_more: proved") == ["apart/called"]
-    # that it calls what is not proved is no fault of its own
-    assert refused(CALLED, f"fn apart::one_more: no proof: {BY_CALL}") == ["apart/called"]
-    in_cycle = f"in `apart::more`, of this cycle of calls: {BY_CALL}"
-    assert refused(CALLED, f"fn apart::one_more: no proof: {in_cycle}") == ["apart/called"]
-    assert refused("fn apart::at_most_ten: proved", CALLER) == ["apart/caller"]
+def refused(*lines, status=1, last="logic=not-proved", seed=SEED, caller=CALLER):
+    batch = batch_of(edit("called", *WRONG_CALLED), caller)
+    return names(edits.refused_in(batch, seed, status, "\n".join([*lines, last, ""])))
+
+
+@pytest.mark.parametrize(
+    "wanted, lines",
+    [
+        ("called caller", [CALLED, f"{OPEN}; {BY_CALL}"]),
+        ("called", [CALLED, "fn apart::one_more: proved"]),
+        # that it calls what is not proved is no fault of its own
+        ("called", [CALLED, f"fn apart::one_more: no proof: {BY_CALL}"]),
+        (
+            "called",
+            [
+                CALLED,
+                f"fn apart::one_more: no proof: in `apart::more`, of this cycle of calls: {BY_CALL}",
+            ],
+        ),
+        ("caller", [PROVED, OPEN]),
+        # by an answer
+        (
+            "caller",
+            [
+                PROVED,
+                f"{PLACE}:8:23: error: `returns`: as printed, the two types differ",
+                f"{PLACE}:9:5: error: 1 declaration that depends on `returns`, which was rejected, was not checked: more",
+                "fn apart::one_more: not proved",
+            ],
+        ),
+        # an answer that names what is gone refuses nothing
+        (
+            "called",
+            [
+                CALLED,
+                f"{PLACE}:8:23: error: `returns`: it has no field `few`",
+                "fn apart::one_more: not proved",
+            ],
+        ),
+        # nor does another goal, or what is unclear
+        ("", [PROVED, OPEN.replace("`returns`", "`overflow_add`")]),
+        ("", [PROVED, f"{OPEN} and `overflow_add`"]),
+        ("called", [CALLED, "fn apart::one_more: not proved"]),
+        ("called", [CALLED, "fn apart::one_more: could not tell"]),
+        (
+            "called",
+            [
+                CALLED,
+                "fn apart::one_more: no proof: expected `one_more_spec` in ./proofs/one_more/Proof.antt",
+            ],
+        ),
+        (
+            "called",
+            [
+                CALLED,
+                "fn apart::one_more: no proof: antt did not admit its contract; `search` did not prove `returns`",
+            ],
+        ),
+    ],
+)
+def test_refused(wanted, lines):
+    assert refused(*lines) == wanted
 
 
 def test_what_is_proved_otherwise_is_so_in_the_seed():
@@ -252,92 +300,42 @@ def test_what_is_proved_otherwise_is_so_in_the_seed():
         "fn apart::waits: proved, may wait",
         "fn apart::fn::waits::lock: proved where its callers give what it asks",
     ]
-    seed = "\n".join([*lines, SEED])
-    output = "\n".join([*lines, CALLED, CALLER, "logic=not-proved", ""])
-    batch = batch_of(edit("called", *WRONG_CALLED), edit("caller", *WRONG_CALLER))
-    found = edits.refused_in(batch, seed, 1, output)
-    assert names(found) == ["apart/called", "apart/caller"]
-
-
-def test_refused_by_an_answer():
-    place = "./proofs/one_more/Answers.antt"
-    error = f"{place}:8:23: error: `returns`: as printed, the two types differ"
-    unchecked = (
-        f"{place}:9:5: error: 1 declaration that depends on `returns`, which was rejected, "
-        "was not checked: more"
-    )
-    found = refused(
-        "fn apart::at_most_ten: proved", error, unchecked, "fn apart::one_more: not proved"
-    )
-    assert found == ["apart/caller"]
-
-
-def test_an_answer_that_names_what_is_gone_refuses_nothing():
-    error = "./proofs/one_more/Answers.antt:8:23: error: `returns`: it has no field `few`"
-    assert refused(CALLED, error, "fn apart::one_more: not proved") == ["apart/called"]
-
-
-def test_another_goal_refuses_nothing():
-    assert (
-        refused("fn apart::at_most_ten: proved", CALLER.replace("`returns`", "`overflow_add`"))
-        == []
-    )
-    assert refused("fn apart::at_most_ten: proved", f"{CALLER} and `overflow_add`") == []
+    assert refused(*lines, CALLED, OPEN, seed="\n".join([*lines, SEED])) == "called caller"
 
 
 def test_some_of_its_goals_are_enough():
     """Others may wait for the proof of a function that another edit changes."""
-    caller = edit("caller", *WRONG_CALLER)
-    both = dataclasses.replace(caller, goals=caller.goals | {"overflow_add of one_more"})
-    lines = "\n".join([CALLED, f"{CALLER}; {BY_CALL}", "logic=not-proved", ""])
-    found = edits.refused_in(batch_of(edit("called", *WRONG_CALLED), both), SEED, 1, lines)
-    assert names(found) == ["apart/called", "apart/caller"]
-
-
-@pytest.mark.parametrize(
-    "line",
-    [
-        "not proved",
-        "could not tell",
-        "no proof: expected `one_more_spec` in ./proofs/one_more/Proof.antt",
-        "no proof: antt did not admit its contract; `search` did not prove `returns`",
-    ],
-)
-def test_what_is_unclear_refuses_nothing(line):
-    assert refused(CALLED, f"fn apart::one_more: {line}") == ["apart/called"]
+    both = dataclasses.replace(CALLER, goals=CALLER.goals | {"overflow_add of one_more"})
+    assert refused(CALLED, f"{OPEN}; {BY_CALL}", caller=both) == "called caller"
 
 
 @pytest.mark.parametrize(
     "why, lines, end",
     [
-        ("all is proved", [CALLED, CALLER], {"status": 0, "last": "logic=proved functions=2"}),
-        (
-            "the prover gave no verdict",
-            [CALLED, CALLER],
-            {"status": 3, "last": "rattle: no verdict"},
-        ),
+        ("all is proved", [CALLED, OPEN], {"status": 0, "last": "logic=proved functions=2"}),
+        ("no verdict", [CALLED, OPEN], {"status": 3, "last": "rattle: no verdict"}),
         ("it was killed", [CALLED], {"status": -9, "last": "fn apart::one_more: proved"}),
         ("a function has no line", [CALLED], {}),
         ("a function may wait now", [CALLED, "fn apart::one_more: proved, may wait"], {}),
-        ("the front end found an error", ["error[E0308]: mismatched types", CALLED, CALLER], {}),
+        ("the front end found an error", ["error[E0308]: mismatched types", CALLED, OPEN], {}),
         (
             "a clause could not be read",
-            ["src/lib.rt:9:4: error: `ensures-1`: `+` is not in scope", CALLED, CALLER],
+            ["src/lib.rt:9:4: error: `ensures-1`: `+` is not in scope", CALLED, OPEN],
             {},
         ),
         (
             "a lemma is wrong",
-            ["./proofs/Counts.antt:9:4: error: `more`: the two types differ", CALLED, CALLER],
+            ["./proofs/Counts.antt:9:4: error: `more`: the two types differ", CALLED, OPEN],
             {},
         ),
         (
             "a function is open that no edit names",
-            [CALLED, CALLER, CALLER.replace("one_more", "two_more")],
+            [CALLED, OPEN, OPEN.replace("one_more", "two_more")],
             {},
         ),
         (
             "an answer of a function that no edit changes names what is gone",
-            [CALLED, CALLER, GONE, "fn apart::two_more: not proved"],
+            [CALLED, OPEN, GONE, "fn apart::two_more: not proved"],
             {},
         ),
     ],
@@ -428,6 +426,7 @@ class Toy:
     def run(self, *given):
         """The names of the edits that fail, and of those that are kept."""
         trial = self.trial(*given)
+        trial.look_up()
         trial.run()
         lines = {edit.file.stem: line for edit, line in trial.lines.items()}
         assert lines.keys() == EDITS
@@ -514,6 +513,49 @@ def test_an_edit_that_is_changed_meanwhile_is_kept_as_it_was_read(tmp_path, monk
     assert toy.run() == (set(), EDITS)
 
 
+class OlderProver:
+    """Stands for `rt ci` of a kit that keeps no proofs: it builds one program."""
+
+    stdout = ["rt: below proved\n", "rt: above proved\n"]
+
+    def __init__(self, begun, repository):
+        begun.append(repository)
+        self.program = repository / "crates" / "above" / "out" / "above"
+
+    def wait(self):
+        self.program.parent.mkdir()
+        self.program.write_text("program")
+        return 0
+
+
+@NEEDS_KIT
+def test_with_an_older_kit_all_is_proved_again_if_anything_has_changed(tmp_path, monkeypatch):
+    toy = Toy(tmp_path, monkeypatch)
+    begun = []
+    monkeypatch.setattr(tool().parts, "does_kit_keep", lambda: False)
+    monkeypatch.setattr(tool(), "begin_proving", lambda _, at, __: OlderProver(begun, at))
+    monkeypatch.setattr(tool().os, "nice", lambda _: None)
+    monkeypatch.setattr(older_kit, "STORE", str(toy.store))
+    built = toy.root / "crates" / "above" / "out" / "above"
+
+    def proves(is_from_nothing=False):
+        number = len(begun)
+        built.unlink(missing_ok=True)
+        assert tool().prove_and_try([], next(toy.rooms), is_from_nothing)[0] == 0
+        assert built.read_text() == "program"
+        return len(begun) > number
+
+    assert [proves(), proves(), proves(True), proves()] == [True, False, True, False]
+    # nothing is built of the crates below over which an edit could be tried
+    toy.change(EDIT, "9", "19")
+    assert [proves(), proves()] == [True, False]
+    toy.change(BELOW, "    // some\n", "")
+    assert [proves(), proves()] == [True, False]
+    [kept] = (toy.store / "proved").iterdir()
+    kept.chmod(0o777)
+    assert proves()
+
+
 @pytest.mark.parametrize(
     "old, new, is_same",
     [
@@ -538,14 +580,17 @@ def test_no_two_functions_have_one_sum():
     assert len({it.own for functions in found for of in functions.values() for it in of}) == 4
 
 
-def test_the_full_check_hands_on_that_nothing_counts(monkeypatch):
+@pytest.mark.parametrize("does_keep", [True, False])
+def test_the_full_check_hands_on_that_nothing_counts(monkeypatch, does_keep):
     begun = []
+    monkeypatch.setattr(tool().parts, "does_kit_keep", lambda: does_keep)
     monkeypatch.setattr(tool("all").parts, "Part", lambda words, *_, **__: begun.append(words))
     tool("all").begin_proving(["--from-nothing"], None)
     monkeypatch.setattr(subprocess, "Popen", lambda words, **_: begun.append(words))
     monkeypatch.setattr(tool().signal, "signal", lambda *_: None)
     tool().begin_proving(None, None, True)
-    assert begun == [["tests/edits", "--from-nothing"], ["rt", "ci", "--anew"]]
+    anew = ["--anew"] if does_keep else []
+    assert begun == [["tests/edits", "--from-nothing"], ["rt", "ci", *anew]]
 
 
 def test_no_file_cites_the_proof_of_a_function_of_another():
@@ -574,6 +619,7 @@ def test_a_file_that_cites_the_proof_of_another_function(path, text):
 
 # ---------------------------------------------------------------- the prover itself
 @NEEDS_KIT
+@pytest.mark.proved
 def test_a_wrong_and_a_right_body_change_nothing_of_each_other(tmp_path):
     """Of the two edits of each check just the wrong ones are refused, at their own goals."""
     crate = tmp_path / "crates" / "apart"
@@ -595,4 +641,4 @@ def test_a_wrong_and_a_right_body_change_nothing_of_each_other(tmp_path):
     batches, alone = edits.batches_of(tried, {"src/lib.rt": SOURCE})
     assert ([len(batch.functions) for batch in batches], alone) == ([2, 2, 2], [])
     left = [names(trial.try_batch(proved.stdout, batch)) for batch in batches]
-    assert left == [["apart/1-right-caller"], ["apart/2-right-called"], []]
+    assert left == ["1-right-caller", "2-right-called", ""]

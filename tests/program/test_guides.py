@@ -16,7 +16,7 @@ import shutil
 import subprocess
 import tempfile
 
-from tests.support import expecting
+from tests.support import expecting, makers
 from tests.support.program import PROGRAM, ROOT
 
 DOCS = ROOT / "docs"
@@ -88,12 +88,6 @@ def tools_in(folder):
     return tools
 
 
-def path_in(folder):
-    """Where a reader has the programs."""
-    tools = tools_in(folder)
-    return os.pathsep.join(map(str, [PROGRAM.parent, ROOT / "bin", tools, os.environ["PATH"]]))
-
-
 def answers_of(steps):
     """What the commands of a guide print, in their order."""
     with tempfile.TemporaryDirectory() as name:
@@ -104,23 +98,23 @@ def answers_of(steps):
             "DEBVOTE_CLOCK": str(folder / "clock"),
             "PYTHONDONTWRITEBYTECODE": "1",
         }
-        environment, reader = {
-            "PATH": path_in(folder),
-            "HOME": name,
-            "LC_ALL": "C",
-            **clock,
-        }, folder / "reader"
+        tools, reader = tools_in(folder), folder / "reader"
+        places = [tools, PROGRAM.parent, ROOT / "bin", os.environ["PATH"]]
+        path = os.pathsep.join(map(str, places))
         shutil.copytree(ROOT / "examples", reader / "examples")
         shutil.copyfile(ROOT / "tests" / "reference.py", reader / "reference.py")
-        ended = subprocess.run(
-            ["bash"],
-            input="exec 2>&1\n" + "".join(shell_text(steps)),
-            cwd=reader,
-            env=environment,
-            stdout=subprocess.PIPE,
-            text=True,
-            timeout=SECONDS,
-        )
+        with makers.maker() as asking:
+            makers.write_programs(tools, asking)
+            ended = subprocess.run(
+                ["bash"],
+                input="exec 2>&1\n" + "".join(shell_text(steps)),
+                cwd=reader,
+                env={"PATH": path, "HOME": name, "LC_ALL": "C", **clock},
+                pass_fds=[asking.fileno()],
+                stdout=subprocess.PIPE,
+                text=True,
+                timeout=SECONDS,
+            )
     return ended.stdout.split(MARK)
 
 

@@ -185,15 +185,14 @@ class PagesTest(expecting.Expecting):
         )
         found = {number: as_words(text) for number, text in statuses}
         plainly = [
-            (number, sentence(re.sub(r" [(].*[)][.]$", "", found[number]))) for number in found
+            (number, sentence(re.sub(r" [(].*[)][.]$", "", text))) for number, text in found.items()
         ]
         wanted = [(number, sentence(words)) for number, words in statuses_of_help()]
         self.expect("debvote.1: exit statuses", plainly, wanted)
-        faults = dict(faults_of_formats())
-        self.expect(
-            "docs/FORMATS.md: statuses with fault lines", [*faults], "3 4 5 6 7 8 10".split()
-        )
-        for number, words in faults.items():
+        faults = faults_of_formats()
+        numbers = [number for number, _ in faults]
+        self.expect("docs/FORMATS.md: statuses of faults", numbers, "3 4 5 6 7 8 10".split())
+        for number, words in faults:
             missing = [line for line in words if line not in found[number]]
             self.expect(f"debvote.1: fault lines of {number}", missing, [])
 
@@ -273,8 +272,5 @@ class CompletionsTest(expecting.Expecting):
             script = (
                 f"source {ROOT}/completions/fish/{program}.fish; complete -C '{program} {words}'"
             )
-            lines = output_of("fish", "-N", "-c", script).splitlines()
-            found = [
-                name for name, _, described in (line.partition("\t") for line in lines) if described
-            ]
+            found = re.findall(r"(?m)^([^\t\n]*)\t.", output_of("fish", "-N", "-c", script))
             self.expect(f"fish: {program} {words}", sorted(found), sorted(wanted))

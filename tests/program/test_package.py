@@ -27,6 +27,11 @@ def run(*words, **how):
     return subprocess.run([*map(str, words)], capture_output=True, text=True, timeout=600, **how)
 
 
+def files_below(folder):
+    """The files there, by their paths from it."""
+    return {file.relative_to(folder) for file in folder.rglob("*") if file.is_file()}
+
+
 def copy_to(folder, time, mask):
     """A copy of this repository with the program, each file with this time."""
     before = os.umask(mask)
@@ -78,28 +83,14 @@ class Package(unittest.TestCase):
     def test_all_of_it_is_there(self):
         """Each part of the programs in Python, translations compiled, and what their users read."""
         share = self.tree / "usr" / "share"
-        files = (file for file in (ROOT / "python").rglob("*") if file.is_file())
-        parts = {file for file in files if "__pycache__" not in file.parts}
-        wanted = {
-            (part.with_suffix(".mo") if part.suffix == ".po" else part).relative_to(ROOT / "python")
-            for part in parts
-        }
-        found = {
-            file.relative_to(share / "debvote")
-            for file in (share / "debvote").rglob("*")
-            if file.is_file()
-        }
+        parts = (part for part in files_below(ROOT / "python") if "__pycache__" not in part.parts)
+        wanted = {part.with_suffix(".mo") if part.suffix == ".po" else part for part in parts}
         pages = [f"debvote_tools/call/teller-{code}.html" for code in LANGUAGES]
         beside = {pathlib.Path(name) for name in ("READING-A-SHEET.md", "recount.py", *pages)}
-        self.assertEqual(found, wanted | beside)
+        self.assertEqual(files_below(share / "debvote"), wanted | beside)
         documents = share / "doc" / "debvote"
-        for name in (
-            "copyright",
-            "reference.py",
-            "recount.js",
-            "docs/SECRETARY.md",
-            "docs/claim.html",
-        ):
+        names = "copyright reference.py recount.js docs/SECRETARY.md docs/claim.html"
+        for name in names.split():
             self.assertTrue((documents / name).read_text(), name)
         self.assertIn("No licence has been chosen", (documents / "copyright").read_text())
         for program in (ROOT / "bin").iterdir():

@@ -264,28 +264,21 @@ class WordsTest(WholeTest):
         """A run leaves the files that it reads, and the folder around them, as they are."""
         for file in (POLL, BALLOTS, SHEET):
             (self.folder / file.name).write_bytes(file.read_bytes())
-        words = files_of(self.folder)
+        files = files_of(self.folder)
 
         def as_it_is():
-            return [
-                (
-                    file,
-                    file.read_bytes(),
-                    (found := file.stat()).st_mode,
-                    found.st_mtime_ns,
-                    found.st_ino,
-                )
-                for file in sorted(self.folder.iterdir())
-            ]
+            """The bytes, the inode, the mode and the time of each."""
+            found = {file: file.stat() for file in self.folder.iterdir()}
+            return {
+                file: (file.read_bytes(), stat[:2], stat.st_mtime_ns)
+                for file, stat in found.items()
+            }
 
         before = as_it_is()
-        for command, *more in (
-            ["count"],
-            ["verify", "--sheet", self.folder / "sheet"],
-            ["explain"],
-        ):
-            found = run([command, *words, *more])[2], as_it_is() == before
-            self.expect(f"{command}: the files are as they were", found, (0, True))
+        sheet = ["--sheet", self.folder / "sheet"]
+        for words in (["count", *files], ["verify", *files, *sheet], ["explain", *files]):
+            found = run(words)[2], as_it_is() == before
+            self.expect(f"{words[0]}: the files are as they were", found, (0, True))
 
     def test_streams(self):
         """A full disk, a closed pipe and a closed output end with a fault line and status 7, and not by a signal."""
@@ -326,75 +319,64 @@ class WordsTest(WholeTest):
 
 class LimitsTest(WholeTest):
     def test_limits_of_files(self):
-        """Files of the greatest size and of one byte more, and as many lines."""
-        poll_text, none = POLL.read_bytes(), self.folder / "none"
-
-        def file(name, content):
-            (self.folder / name).write_bytes(content)
-            return self.folder / name
-
-        longest, longer = (
-            file(f"poll {more}", poll_text.ljust(POLL_LIMIT + more, b"#")) for more in (0, 1)
-        )
-        more, many = file("more", b"x" * (BALLOTS_LIMIT + 1)), file("many", b"\n" * 100_001)
-        longest_sheet, longer_sheet = (
-            file(f"sheet {more}", b"x" * (SHEET_LIMIT + more)) for more in (0, 1)
-        )
-        broken, zed = file("broken", b"title ="), ["--casting", "Zed"]
-        poll_too_long, too_long = refused("poll too long", 3), refused("ballots too long", 4)
-        too_many = refused("ballots refused: too many lines", 4)
-        most = file("most", b"x" * BALLOTS_LIMIT)
-        of_one = [b"Lines: 1\nValid: 0\nRefused: 1\nVoters: 0\n"]
-        long, empty = file("long", (b"x" * 334 + b"\n") * 100_000), file("empty", b"\n" * 100_000)
-        odd = file("odd", bytes(range(256)) * 1000)
-        for name, files, wanted in [
-            ("a poll of the greatest size", of_both(longest), (SHEET.read_bytes(), b"", 0)),
-            ("a poll of one byte more", of_both(longer), poll_too_long),
-            ("a poll too long and no ballots", of_both(longer, none), poll_too_long),
-            ("ballots of the greatest size", of_both(ballots=most), (of_one, b"", 0)),
-            ("ballots of one byte more", of_both(ballots=more), too_long),
-            ("100,000 long lines", of_both(ballots=long), ([b"Refused: 100000\n"], b"", 0)),
-            ("100,000 empty lines", of_both(ballots=empty), ([b"Refused: 100000\n"], b"", 0)),
-            ("bytes of all kinds", of_both(ballots=odd), ([b"Valid: 0\n"], b"", 0)),
-            (
-                "the casting vote before the lines",
-                [*of_both(ballots=many), *zed],
-                refused("casting option is not in the poll", 8),
-            ),
-            (
-                "the poll before both",
-                [*of_both(broken, many), *zed],
-                refused("poll refused: syntax", 3),
-            ),
+        """Files of the greatest size and of one byte more, and as many lines. Of two faults the first in this order is said."""
+        poll, sheet = POLL.read_bytes(), SHEET.read_bytes()
+        files = {
+            "poll": poll,
+            "greatest": poll.ljust(POLL_LIMIT, b"#"),
+            "longer": poll.ljust(POLL_LIMIT + 1, b"#"),
+            "broken": b"title =",
+            "ballots": BALLOTS.read_bytes(),
+            "most": b"x" * BALLOTS_LIMIT,
+            "more": b"x" * (BALLOTS_LIMIT + 1),
+            "long": (b"x" * 334 + b"\n") * 100_000,
+            "empty": b"\n" * 100_000,
+            "many": b"\n" * 100_001,
+            "odd": bytes(range(256)) * 1000,
+            "sheet": sheet,
+            "sheet0": b"x" * SHEET_LIMIT,
+            "sheet1": b"x" * (SHEET_LIMIT + 1),
+        }
+        for name, data in files.items():
+            (self.folder / name).write_bytes(data)
+        for words, status, said in [
+            ("count greatest ballots", 0, sheet),
+            ("count longer ballots", 3, "poll too long"),
+            ("count longer none", 3, "poll too long"),
+            ("count poll most", 0, [b"Lines: 1\nValid: 0\nRefused: 1\nVoters: 0\n"]),
+            ("count poll more", 4, "ballots too long"),
+            ("count poll long", 0, [b"Refused: 100000\n"]),
+            ("count poll empty", 0, [b"Refused: 100000\n"]),
+            ("count poll odd", 0, [b"Valid: 0\n"]),
+            ("count poll many --casting Zed", 8, "casting option is not in the poll"),
+            ("count broken many --casting Zed", 3, "poll refused: syntax"),
+            ("count poll many", 4, "ballots refused: too many lines"),
+            ("steps poll many", 4, "ballots refused: too many lines"),
+            ("standing poll many", 4, "ballots refused: too many lines"),
+            ("explain poll many", 4, "ballots refused: too many lines"),
+            ("picture poll many", 4, "ballots refused: too many lines"),
+            # what is wrong with a poll is said on standard output
+            ("explain broken many", 3, None),
+            ("verify poll ballots --sheet sheet", 0, b"verified\n"),
+            ("verify poll ballots --sheet sheet0", 9, [b"differs at line 1\nsheet: x"]),
+            ("verify poll ballots --sheet sheet1", 10, "sheet too long"),
+            ("verify poll ballots --sheet none", 10, "sheet unreadable"),
+            ("verify longer more --sheet sheet", 3, "poll too long"),
+            ("verify longer ballots --sheet sheet1", 3, "poll too long"),
+            ("verify poll more --sheet sheet1", 4, "ballots too long"),
+            ("verify longer ballots --sheet none", 3, "poll too long"),
+            ("verify poll none --sheet sheet1", 4, "ballots unreadable"),
         ]:
-            self.expect(name, run(["count", *files]), wanted)
-        for command in ("count", "steps", "standing", "explain", "picture"):
-            found = run([command, *of_both(ballots=many)])
-            self.expect(f"a line too many for {command}", found, too_many)
-        found = run(["explain", *of_both(broken, many)])
-        self.expect("a poll refused before the lines are read", found, (None, b"", 3))
-        differs = [b"differs at line 1\nsheet: x"]
-        for name, files, other, wanted in [
-            ("a sheet", of_both(), SHEET, (b"verified\n", b"", 0)),
-            ("a sheet of the greatest size", of_both(), longest_sheet, (differs, b"", 9)),
-            ("a sheet of one byte more", of_both(), longer_sheet, refused("sheet too long", 10)),
-            ("no sheet", of_both(), none, refused("sheet unreadable", 10)),
-            ("poll and ballots too long", of_both(longer, more), SHEET, poll_too_long),
-            ("poll and sheet too long", of_both(longer), longer_sheet, poll_too_long),
-            ("ballots and sheet too long", of_both(ballots=more), longer_sheet, too_long),
-            ("a poll too long before no sheet", of_both(longer), none, poll_too_long),
-            (
-                "no ballots before a sheet too long",
-                of_both(ballots=none),
-                longer_sheet,
-                refused("ballots unreadable", 4),
-            ),
-        ]:
-            self.expect(name, run(["verify", *files, "--sheet", other]), wanted)
-        joined = (poll_text + b"%%\n").ljust(JOINED_LIMIT, b"x")
+            command, *names = words.split()
+            of_poll, ballots, *more = (
+                self.folder / name if name in {*files, "none"} else name for name in names
+            )
+            wanted = refused(said, status) if isinstance(said, str) else (said, b"", status)
+            self.expect(words, run([command, *of_both(of_poll, ballots), *more]), wanted)
+        joined = (poll + b"%%\n").ljust(JOINED_LIMIT, b"x")
         found = run([], joined)
         self.expect("a joined input of the greatest size", found, (b"1 bad shape\n", b"", 0))
-        self.expect("one byte more", run([], joined + b"x"), too_long)
+        self.expect("one byte more", run([], joined + b"x"), refused("ballots too long", 4))
 
 
 class RollsTest(WholeTest):
@@ -447,32 +429,29 @@ class GreatestTest(WholeTest):
         replies = [b"counted"] * 10_000 + [b"replaced"] * (number - 10_000)
         steps = b"".join(b"%d %s\n" % reply for reply in enumerate(replies, 1))
         standing = "\n".join(lines[-10_000:]).encode() + b"\n"
-        joined = b"\n%%\n".join(
-            (self.folder / name).read_bytes() for name in ("poll.toml", "ballots")
-        )
-        for name, words, given, wanted in [
-            ("check of the greatest poll", ["check", *files[:2]], b"", poll_alone),
-            ("explain of the greatest poll", ["explain", *files[:2]], b"", poll_alone),
-            ("steps of the most lines", ["steps", *files], b"", steps),
-            ("standing of the most lines", ["standing", *files], b"", standing),
-            ("explain of the most lines", ["explain", *files], b"", totals),
-            ("count of the most lines", ["count", *files, "--desks", 8], b"", [b"Winner: 2 B\n"]),
-            ("picture of the most lines", ["picture", *files], b"", [b"digraph "]),
-            ("the most lines in one input", [], joined, steps),
+        sheet = self.folder / "sheet"
+        sheet.write_bytes(run(["count", *files])[0])
+        for words, wanted in [
+            (["check", *files[:2]], poll_alone),
+            (["explain", *files[:2]], poll_alone),
+            (["steps", *files], steps),
+            (["standing", *files], standing),
+            (["explain", *files], totals),
+            (["count", *files, "--desks", 8], [b"Winner: 2 B\n"]),
+            (["picture", *files], [b"digraph "]),
+            (["verify", *files, "--sheet", sheet], b"verified\n"),
         ]:
-            self.expect(name, run(words, given), (wanted, b"", 0))
-        (self.folder / "sheet").write_bytes(run(["count", *files])[0])
-        verified = run(["verify", *files, "--sheet", self.folder / "sheet"])
-        self.expect("verify of the most lines", verified, (b"verified\n", b"", 0))
+            self.expect(words, run(words), (wanted, b"", 0))
+        joined = b"\n%%\n".join(file.read_bytes() for file in files[1::2])
+        self.expect("the most lines in one input", run([], joined), (steps, b"", 0))
         (self.folder / "ballots").write_text("".join(f"{name} 1\n" for name in names) * VOTES_EACH)
         output, *others = run(["explain", *files])
         found, hint = re.sub(EXCERPT, b"", output).splitlines(), b"1 rank, the poll has 3 options"
         wanted = [b"ballots:%d: bad rank count: %s" % (line, hint) for line in range(1, number + 1)]
-        are_told = found[:number] == wanted
-        self.expect("explain of the most refused lines", (are_told, *others), (True, b"", 9))
         nobody = b"%d lines: 0 valid, %d refused, 0 of them late; " % (number, number)
         nobody += b"0 of 10000 electors have a ballot; %s" % NOTHING
-        self.expect("what explain says of them", (found[-1:],), ([nobody],))
+        are_told = [*found[:number], *found[-1:]] == [*wanted, nobody]
+        self.expect("explain of the most refused lines", (are_told, *others), (True, b"", 9))
 
     def test_many_strangers(self):
         """`explain` searches near names for the first 100 lines that are not on the roll."""
@@ -484,6 +463,7 @@ class GreatestTest(WholeTest):
         wanted = [True] * 100 + [False] * 4, b"", 9
         self.expect("near names of many strangers", (found, *others), wanted)
 
+    @pytest.mark.whole
     def test_most_findings(self):
         """`explain` of a poll of the greatest size: a line for each of 10,000 misshapen names and 60,000 keys that are not read."""
         keys = [f"k{i:05}" for i in range(60_000)]

@@ -12,17 +12,23 @@ import sys
 import tempfile
 import unittest
 
+import pytest
+
 from tests.support.program import ROOT
 
 # more than any of these runs takes on a slow machine
 SECONDS = 600
 
-# imports what a program imports, as if it was typed
+# imports what each of some programs imports, as if it was typed where no other one was before
 IMPORTS = """
-import pathlib, runpy, sys
-file = pathlib.Path(sys.argv[1])
-sys.path[0] = str(file.parent)
-runpy.run_path(str(file), run_name="imported")
+import os, runpy, sys
+path = sys.path[1:]
+for program in sys.argv[1:]:
+    for name, module in [*sys.modules.items()]:
+        if str(getattr(module, "__file__", None)).startswith(os.getcwd()):
+            del sys.modules[name]
+    sys.path[:] = [os.path.dirname(program), *path]
+    runpy.run_path(program, run_name="imported")
 """
 
 # what a module of the system does that is imported in place of one of the tests
@@ -50,7 +56,7 @@ def names() -> set[str]:
 
 
 class NamesTest(unittest.TestCase):
-    def test_modules_of_the_system_with_the_same_names(self):
+    def check(self, *words: object):
         others = pathlib.Path(
             self.enterContext(tempfile.TemporaryDirectory(prefix="debvote-names-"))
         )
@@ -58,14 +64,20 @@ class NamesTest(unittest.TestCase):
         for name in names():
             (others / f"{name}.py").write_text(TAKEN)
         where = {**os.environ, "PYTHONPATH": str(others), "PYTHONDONTWRITEBYTECODE": "1"}
-        imports = [[sys.executable, "-c", IMPORTS, program] for program in programs()]
-        self.assertGreater(len(imports), 10)
-        for words in [
-            *imports,
-            [sys.executable, "-m", "pytest", "--assert=plain", "--collect-only", "-q"],
-        ]:
-            with self.subTest(words[-1]):
-                ended = subprocess.run(
-                    words, cwd=ROOT, capture_output=True, text=True, env=where, timeout=SECONDS
-                )
-                self.assertEqual((ended.stderr, ended.returncode), ("", 0), ended.stdout[-2000:])
+        ended = subprocess.run(
+            [sys.executable, *words],
+            cwd=ROOT,
+            capture_output=True,
+            text=True,
+            env=where,
+            timeout=SECONDS,
+        )
+        self.assertEqual((ended.stderr, ended.returncode), ("", 0), ended.stdout[-2000:])
+
+    def test_modules_of_the_system_with_the_same_names(self):
+        self.assertGreater(len(programs()), 10)
+        self.check("-c", IMPORTS, *programs())
+
+    @pytest.mark.whole
+    def test_they_do_not_stand_in_the_way_of_pytest(self):
+        self.check("-m", "pytest", "--assert=plain", "--collect-only", "-q")

@@ -14,7 +14,16 @@ from debvote_tools.call.box import personal_link
 from tests.support import elections, sealing
 from tests.support.at_browser import Window
 from tests.support.letters import letter, mailbox
-from tests.support.web_host import END, FIRST, HOST_OFF, Answer, Host, clock_of_php, request_of
+from tests.support.web_host import (
+    END,
+    FIRST,
+    HOST_OFF,
+    NEEDS_PHP,
+    Answer,
+    Host,
+    clock_of_php,
+    request_of,
+)
 
 UNTIL = ("--until", "2099-12-04 18:00", "--zone", "Europe/Berlin")
 RANKS, OTHER = "1,2,3,4", "4,3,2,1"
@@ -57,6 +66,7 @@ def link_in(letter: bytes) -> tuple[str, str, str]:
     return found
 
 
+@NEEDS_PHP
 class BoxElectionTest(elections.ElectionTest):
     """A vote with a box. Its host has the folder `web`, to which `upload` copies the call."""
 
@@ -207,9 +217,9 @@ class BoxElectionTest(elections.ElectionTest):
             head = f"{self.page()} {self.proof_of(name)} {next(self.numbers):032x}"
             assert self.host.send(request_of(head, "A" * 300)).word == "received"
 
-    def add_box(self) -> str:
-        """Asks the box, and enters what is new: what is said."""
-        return self.done("add", "--box", "--yes").output
+    def add_box(self, *parts: str) -> str:
+        """Asks the box, and enters what is new: what is said, which has these parts."""
+        return self.tells("add --box --yes", *parts)
 
     def letter(self, name: str, text: str, ago: float = 0, **how: object) -> bytes:
         """A letter that arrived so many seconds ago."""
@@ -247,6 +257,17 @@ class BoxElectionTest(elections.ElectionTest):
         """What a command says, which has to do what it is asked for."""
         return self.done(*words).output
 
+    def tells(self, typed: str, *parts: str, **how: Any) -> str:
+        """The same of a command as it is typed; it has these parts."""
+        said = self.done(typed, **how).output
+        for part in parts:
+            self.assertIn(part, said)
+        return said
+
+    def text(self, name: str) -> str:
+        """A file of the folder on one line."""
+        return " ".join(self.read(name).decode().split())
+
     def receipts(self) -> dict[str, str]:
         """The texts of the receipts that are written now, by name, each on one line."""
         folder = self.folder / "letters" / "receipts"
@@ -282,6 +303,10 @@ class BoxElectionTest(elections.ElectionTest):
         folder = ended.output.split("Made the folder ")[1].split(":")[0]
         lines = (pathlib.Path(folder) / "ballots.txt").read_text().splitlines()
         return dict(line.split(" ", 1) for line in lines)
+
+    def assert_standing(self, **ballots: str):
+        """These ballots count, by name, and no others."""
+        self.assertEqual(self.standing(), ballots)
 
     def file(self) -> pathlib.Path:
         """What the host keeps."""

@@ -111,15 +111,9 @@ def written_in_one_line(text):
 
 def spelled(sign):
     known = {"\\": "\\\\", '"': '\\"', "\r": "\\r", "\t": "\\t", "\n": "\n"}
-    if sign in known:
-        return known[sign]
-    return (
-        sign
-        if sign.isprintable()
-        else f"\\U{ord(sign):08X}"
-        if ord(sign) > 0xFFFF
-        else f"\\u{ord(sign):04X}"
-    )
+    if sign in known or sign.isprintable():
+        return known.get(sign, sign)
+    return f"\\U{ord(sign):08X}" if ord(sign) > 0xFFFF else f"\\u{ord(sign):04X}"
 
 
 def rewrite(file, name, stdout, stderr, status):
@@ -143,26 +137,24 @@ def write_table(file, rows, comment=""):
         + ("" if shared is None else f"poll = {written(shared)}\n"),
     ]
     for name, row in rows.items():
-        lines = [f"[{name}]"]
-        lines += [] if row.about is None else [f"about = {written(row.about)}"]
-        lines += [] if row.args is None else [f"args = [{', '.join(map(written, row.args))}]"]
-        lines += [f"poll = {written(row.poll)}"] if row.poll not in (shared, None) else []
-        lines += (
-            []
-            if row.swap is None
-            else [f"swap = [{', '.join(map(written_in_one_line, row.swap))}]"]
-        )
-        lines += [] if row.called is None else [f"called = {written(row.called)}"]
-        lines += [
-            f"{part} = {written(text)}"
-            for part, text in {"ballots": row.ballots, "sheet": row.sheet}.items()
-            if text is not None
+        values = {
+            "about": row.about,
+            "args": row.args and f"[{', '.join(map(written, row.args))}]",
+            "poll": None if row.poll == shared else row.poll,
+            "swap": row.swap and f"[{', '.join(map(written_in_one_line, row.swap))}]",
+            "called": row.called,
+            "ballots": row.ballots,
+            "sheet": row.sheet,
+            "stdin": row.stdin or None,
+            "stdout": row.stdout or None,
+            "stderr": row.stderr or None,
+            "status": str(row.status) if row.status else None,
+        }
+        as_it_is = ("args", "swap", "status")
+        lines = [
+            f"{key} = {value if key in as_it_is else written(value)}\n"
+            for key, value in values.items()
+            if value is not None
         ]
-        lines += [
-            f"{part} = {written(getattr(row, part))}"
-            for part in ("stdin", "stdout", "stderr")
-            if getattr(row, part)
-        ]
-        lines += [f"status = {row.status}"] if row.status else []
-        parts.append("\n".join(lines) + "\n")
+        parts.append("".join([f"[{name}]\n", *lines]))
     file.write_bytes("\n".join(part for part in parts if part).encode())

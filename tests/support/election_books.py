@@ -2,6 +2,8 @@
 """
 
 import contextlib
+import email
+import functools
 import hashlib
 import io
 import json
@@ -24,6 +26,22 @@ from tests.support.terminal import Terminal
 
 LAKE = "At the lake, then In the town hall, then Further discussion, then Sell the house and meet there"
 HALL = "In the town hall, then At the lake, then Further discussion, then Sell the house and meet there"
+
+
+def text_in(data: bytes) -> str:
+    """The text of a letter to an elector, on one line."""
+    return " ".join(email.message_from_bytes(data).get_payload(decode=True).decode().split())
+
+
+def spread(names: dict[str, Any], kinds: Sequence[Any], count: int):
+    """Puts a class for each few elections among these names, so that they run side by side; each
+    test plays one of another seed.
+    """
+    for seed in range(count):
+        kind = kinds[seed % len(kinds)]
+        name = f"{kind.__name__}{seed // (2 * len(kinds))}"
+        played = functools.partialmethod(kind.played, seed)
+        setattr(names.setdefault(name, type(name, (kind,), {})), f"test_{seed}", played)
 
 
 class CalledTest(elections.ElectionTest):
@@ -144,11 +162,6 @@ class CalledTest(elections.ElectionTest):
         """What a desk tells of lines that are typed there."""
         return self.told("desk", given="".join(f"{line}\n" for line in lines))
 
-    def assert_stops(self, ended: elections.Ended, before: int, status: int, *parts: str):
-        """There is one fault, with these parts, and no act."""
-        self.assert_fault(ended, status, *parts)
-        self.assertEqual(self.last_act(), before)
-
     def assert_refused(
         self, words: Sequence[object], status: int, *parts: str, **how: Any
     ) -> elections.Ended:
@@ -157,7 +170,8 @@ class CalledTest(elections.ElectionTest):
         """
         before = self.last_act()
         ended = self.election(*([words] if isinstance(words, str) else words), **how)
-        self.assert_stops(ended, before, status, *parts)
+        self.assert_fault(ended, status, *parts)
+        self.assertEqual(self.last_act(), before)
         return ended
 
 

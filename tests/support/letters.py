@@ -1,6 +1,5 @@
 """What the tests of letters that come share: letters, circumstances, and debvote."""
 
-import collections
 import dataclasses
 import datetime
 import itertools
@@ -21,7 +20,7 @@ from debvote_tools.inbox.letter_lines import Names, ReadLetter, from_json, to_js
 from debvote_tools.inbox.lines import repaired_but_for_name, with_small_name
 from debvote_tools.inbox.mailbox import NotRead, RawLetter
 from debvote_tools.inbox.reasons import ReasonWithValues, for_secretary
-from debvote_tools.inbox.rules import NOT_KEPT, Circumstances, LetterCase, LetterOutcome
+from debvote_tools.inbox.rules import NOT_KEPT, Circumstances, LetterCase, Ruling
 from debvote_tools.poll.questions import LONGEST_LINE
 from debvote_tools.poll.sealed import in_brackets
 
@@ -40,6 +39,8 @@ BALLOT, OTHER = f"ada {RANKS}", f"ada {OTHER_RANKS}"
 IN = f"in: {BALLOT}"
 HTML = "text/html; charset=utf-8"
 MARK = elections.ANY_MARK
+# how many random letters are made where more find more
+RANDOM_LETTERS = int(os.environ.get("DEBVOTE_RANDOM_LETTERS", "20000"))
 # the own mark of each elector, and what the subject of a letter of ours has
 OWN = {name: elections.any_own(name) for name in NAMES}
 TITLE = "Where we meet in spring"
@@ -334,10 +335,10 @@ def judged_alone(one: ReadLetter, now: Circumstances) -> LetterCase:
 
 def counted(action: Callable[[], Found]) -> tuple[Found, int]:
     """What is found, and how many functions are called meanwhile."""
-    events = collections.Counter[str]()
-    sys.setprofile(lambda _, event, __: events.update([event]))
+    calls = itertools.count()
+    sys.setprofile(lambda *_: next(calls))
     try:
-        return action(), events.total()
+        return action(), next(calls)
     finally:
         sys.setprofile(None)
 
@@ -346,7 +347,7 @@ def calls_while_judged(letters: Sequence[ReadLetter]) -> int:
     """How many functions are called while letters are judged, of which the first goes in."""
     cases = [LetterCase(one, circumstances()) for one in letters]
     found, calls = counted(lambda: judge_all(cases, in_order({})))
-    assert found[0].outcome is LetterOutcome.GOES_IN, outcome(found[0])
+    assert found[0].ruling is Ruling.GOES_IN, outcome(found[0])
     return calls
 
 
@@ -367,17 +368,17 @@ def outcome(one: LetterCase) -> str:
     """What becomes of a letter, in a word and the ballot or the reason, which has all values that
     its sentence needs.
     """
-    if one.outcome is LetterOutcome.GOES_IN:
+    if one.ruling is Ruling.GOES_IN:
         return f"in: {one.ballots[0].ballot.line}"
     if one.reason is None:
-        return one.outcome.value
+        return one.ruling.value
     for_secretary(one.reason)
-    return f"{one.outcome.value}: {label(one.reason)}"
+    return f"{one.ruling.value}: {label(one.reason)}"
 
 
 def how_entered(one: LetterCase) -> str:
     """By itself, by somebody who looks at it, or by a line that is typed."""
-    if one.outcome is LetterOutcome.GOES_IN:
+    if one.ruling is Ruling.GOES_IN:
         return "in"
     return "entered" if one.to_enter else "typed"
 
@@ -391,7 +392,7 @@ def lines_in(*letters: bytes | ParsedLetter, **other: object) -> list[str]:
     return [
         one.ballots[0].ballot.line
         for one in judged(*letters, **other)
-        if one.outcome is LetterOutcome.GOES_IN
+        if one.ruling is Ruling.GOES_IN
     ]
 
 

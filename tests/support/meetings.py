@@ -1,6 +1,5 @@
 """A general meeting of 40 members, in German: seven open questions, and two secret ones."""
 
-import email
 import hashlib
 import hmac
 import random
@@ -10,6 +9,7 @@ import time
 from collections.abc import Mapping
 
 from tests.support import boxes
+from tests.support.election_books import text_in
 from tests.support.letters import letter
 from tests.support.outgoing import MailServer
 from tests.support.questions import REFERENCE, Answers, answering, in_words, one_line
@@ -60,12 +60,6 @@ def text_of(name: str, answers: Answers, form: int) -> str:
         one_line(name, answers),
     ]
     return forms[form % len(forms)] + "\n"
-
-
-def text_in(data: bytes) -> str:
-    """The text of a letter, on one line."""
-    text = email.message_from_bytes(data).get_payload(decode=True)
-    return " ".join(text.decode().split())  # type: ignore[union-attr]
 
 
 def normal(ranks: str) -> str:

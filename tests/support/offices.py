@@ -1,4 +1,7 @@
-"""An office for the election of a test, which asks it for pages by HTTP."""
+"""An office for the election of a test, which asks it for pages by HTTP.
+
+It is a fork of the test's process, and a maker makes the commands that it runs. A `Program`, and each with DEBVOTE_FORKS=0, is a new process.
+"""
 
 import html
 import http.client
@@ -10,58 +13,79 @@ import subprocess
 import sys
 import time
 import urllib.parse
+from unittest import mock
 
-from debvote_tools.text.language import language_of
+from debvote_tools.office import command_line
 
-from tests.support import elections
+from tests.support import elections, forks, makers
 from tests.support.program import ROOT
 
 OFFICE = ROOT / "bin" / "debvote-office"
 TAGS = re.compile(r"<[^>]*>")
 
 
-class Spoken:
-    """A test whose offices speak a language. `say` and `say_number` say sentences as they do."""
+def become(words, env, output, *, is_new):
+    """In a fork: it is an office, which says its address by this descriptor."""
+    os.dup2(output, 1)
+    makers.close_from(3)
+    if is_new:
+        os.execve(words[0], words, env)
+    sys.argv = words[1:]
+    forks.in_child(run, words, {"env": env}, [])
 
-    language = "en"
 
-    def setUp(self):
-        super().setUp()
-        self.spoken = language_of(self.language)
-        self.say = self.spoken.say
-        self.say_number = self.spoken.say_number
+def run(programs, _):
+    """Runs an office, which asks a maker for its commands."""
+    of_program = subprocess.Popen
 
-    def office(self):
-        return Office(self, "--language", self.language)
+    def begun(words, **how):
+        if words[0] != sys.executable or words[1] not in forks.LAUNCHERS:
+            return of_program(words, **how)
+        return makers.Made(asking, words, str(how["cwd"]), how["env"])
+
+    with makers.maker() as asking, mock.patch.object(subprocess, "Popen", begun):
+        return command_line.main(programs)
 
 
 class Office:
     """`debvote-office`, which runs until the test ends."""
 
+    is_new = makers.ARE_NEW
+
     def __init__(self, test: elections.ElectionTest, *words: str, folder: str | None = None, **env):
         self.test = test
         place = [str(test.folder)] if folder is None else [folder] if folder else []
-        self.process = subprocess.Popen(
-            [sys.executable, str(OFFICE), "--no-browser", *words, *place],
-            stdout=subprocess.PIPE,
-            stderr=subprocess.PIPE,
-            text=True,
-            env=elections.environment() | test.clock | {"XDG_STATE_HOME": str(test.state)} | env,
-        )
+        words = [sys.executable, str(OFFICE), "--no-browser", *words, *place]
+        env = elections.environment() | test.clock | {"XDG_STATE_HOME": str(test.state)} | env
+        forks.read_ahead()
+        output, inner = os.pipe()
+        self.pid = os.fork()
+        if self.pid == 0:
+            try:
+                become(words, env, inner, is_new=self.is_new)
+            finally:
+                os._exit(70)
+        self.status: int | None = None
         test.addCleanup(self.end)
-        self.address = self.process.stdout.readline().strip()
+        os.close(inner)
+        self.output = open(output)
+        test.addCleanup(self.output.close)
+        self.address = self.output.readline().strip()
         test.assertTrue(self.address.startswith("http://127.0.0.1:"), self.address)
         parts = urllib.parse.urlsplit(self.address)
         self.host = parts.netloc
         self.base = parts.path
 
+    def wait(self):
+        """Its exit status, once it has ended."""
+        if self.status is None:
+            self.status = forks.awaited(self.pid, elections.SECONDS, ["debvote-office"])
+        return self.status
+
     def end(self):
-        if self.process.poll() is None:
-            self.process.send_signal(signal.SIGTERM)
-        try:
-            self.process.communicate(timeout=elections.SECONDS)
-        except ValueError:
-            self.process.wait()
+        if self.status is None:
+            os.kill(self.pid, signal.SIGTERM)
+        self.wait()
 
     def ask(self, method, path, body=None, **heads):
         """The status, the heads and the bytes that answer a request."""
@@ -115,6 +139,12 @@ class Office:
         )
         return self.posted(place, body, **{"Content-Type": "multipart/form-data; boundary=x"})
 
+    def shows(self, text, *parts):
+        """A page, of which a reader sees these parts."""
+        for part in parts:
+            self.test.assertIn(part, seen(text))
+        return text
+
     def asked(self, text):
         """The number of the question that a page asks."""
         return int(re.search(r'name="asked" value="(\d+)"', text)[1])
@@ -132,6 +162,11 @@ class Office:
             text = self.yes(text)
         return text
 
+    def trust(self, place=""):
+        """Agrees to the programs that a page shows."""
+        [digest] = re.findall(r'name="digest" value="(\w+)"', self.page(place))
+        return self.post("agree", digest=digest)
+
     def type(self, name, ranks, desk=1, **answers):
         """Types a ballot at a desk, and returns the page that reads it back."""
         text = self.page(f"desk/{desk}")
@@ -141,18 +176,28 @@ class Office:
         return self.post(f"desk/{desk}", **fields)
 
 
+class Program(Office):
+    """The program as it is started, whose commands are new processes, too."""
+
+    is_new = True
+
+
 def seen(text):
     """What a reader sees of a page."""
     return " ".join(html.unescape(TAGS.sub(" ", text)).split())
 
 
 def descriptors(office):
-    return len(os.listdir(f"/proc/{office.process.pid}/fd"))
+    return len(os.listdir(f"/proc/{office.pid}/fd"))
 
 
 def children(office):
     """The commands that an office runs."""
-    pid = office.process.pid
+    found = children_of(office.pid)
+    return found if office.is_new else [child for made in found for child in children_of(made)]
+
+
+def children_of(pid):
     found = pathlib.Path(f"/proc/{pid}/task").glob("*/children")
     return [int(child) for file in found for child in file.read_text().split()]
 

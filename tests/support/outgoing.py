@@ -138,6 +138,7 @@ class MailServer:
             self.is_stopped = True
             self.controller.stop()
 
+    @property
     def addresses(self) -> list[str]:
         return [one.to for one in self.taken]
 
@@ -245,10 +246,10 @@ class SendTest(OutTest):
             authenticator=lambda *words: self.server.authenticated(*words), auth_require_tls=False
         )
 
-    def send(self, kind: str, *words: object) -> elections.Ended:
-        """Sends letters; reminders also within a day of the last ones."""
-        words = (*words, "--yes") if kind == "reminders" else words
-        return self.election("letters", kind, "--send", "--server", self.server.name, *words)
+    def send(self, *words: object) -> elections.Ended:
+        """Sends letters of a kind, or all; reminders also within a day of the last ones."""
+        yes = ["--yes"] * ("reminders" in words)
+        return self.election("letters", *words, *yes, "--send", "--server", self.server.name)
 
     def assert_sent(
         self, kind: str, said: str = "", status: int = 0, refused: Mapping[str, str] = {}
@@ -261,11 +262,11 @@ class SendTest(OutTest):
         return ended
 
     def assert_none_is_due(self, kind: str):
-        before = self.server.addresses()
+        before = self.server.addresses
         self.assert_sent(
             kind, "There is no letter to send: the server has taken all that are due.\n"
         )
-        self.assertEqual(self.server.addresses(), before)
+        self.assertEqual(self.server.addresses, before)
 
     def sending(self) -> subprocess.Popen:
         """A run of its own that sends the call."""

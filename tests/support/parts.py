@@ -6,6 +6,7 @@ each reason once.
 
 import collections
 import dataclasses
+import functools
 import os
 import pathlib
 import re
@@ -47,6 +48,12 @@ def kit() -> pathlib.Path:
     return pathlib.Path(
         subprocess.run(["rt", "doc"], capture_output=True, text=True, check=True).stdout.strip()
     ).parent
+
+
+@functools.cache
+def does_kit_keep() -> bool:
+    """Whether the kit keeps what it has proved and refused, as 13f does. 13b does not."""
+    return "--anew" in (kit() / "bin" / "rt").read_text()
 
 
 def environment_of_try() -> dict[str, str]:

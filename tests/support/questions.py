@@ -15,6 +15,9 @@ from tests.support.program import PROGRAM, ROOT
 
 REFERENCE = ROOT / "tests" / "reference.py"
 
+# a letter is entered, whoever sent it and whatever came since
+FORCED = "--force not-tied --force voted-since"
+
 # answers by label, as `{"A": "1,2"}`
 Answers = Mapping[str, str]
 
@@ -43,8 +46,12 @@ class QuestionsTest(LettersTest):
 
     title = "General assembly 2026"
     polls: Mapping[str, str] = {"A": FEE, "B": CHAIR, "C": ROOF}
-    poll = "".join(polls.values())
     new_words: Sequence[str] = ("--questions", "3")
+
+    @property
+    def poll(self) -> str:
+        """What all polls have."""
+        return "".join(self.polls.values())
 
     def kind(self) -> tuple[object, ...]:
         return (*super().kind(), self.title, *self.polls.items())

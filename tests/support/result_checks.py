@@ -21,7 +21,7 @@ import tempfile
 import tomllib
 
 from tests import reference, reference_checks
-from tests.support import page_parts as pages, publishing
+from tests.support import forks, page_parts as pages, publishing
 from tests.support.page_parts import Wrong, demand
 from tests.support.polls import random_polls
 from tests.support.publishing import PROGRAM
@@ -371,14 +371,16 @@ def try_random_polls(expect, met):
     """Compares this many random polls without a fault, on all processors. Other polls have had
     these kinds of sentences.
     """
-    wrong, passed, seed = [], 0, 1
+    wrong, passed, seed, most = [], 0, 1, min(POLLS, 40)
+    # once, and not in each process
+    forks.read_ahead()
     with concurrent.futures.ProcessPoolExecutor() as pool:
         while passed < POLLS:
-            for kinds, fault in pool.map(meet, range(seed, seed + 40), chunksize=5):
+            for kinds, fault in pool.map(meet, range(seed, seed + most), chunksize=5):
                 passed += kinds is not None
                 met += kinds or collections.Counter()
                 wrong += [fault] if fault else []
-            seed += 40
+            seed += most
     expect(f"random polls ({passed} of seeds 1 to {seed - 1}): what is wrong", wrong[:3], [])
     if POLLS >= ENOUGH:
         expect(

@@ -27,7 +27,7 @@ WITH_TWO = {"say_number"}
 # how a sentence begins that is marked by nothing else
 BEGINS = "The reason: "
 # the enumerations whose values are sentences, or begin with one; and the words of the log
-SAID = {"Reason", "LetterOutcome"}
+SAID = {"Reason", "Ruling"}
 ACTS = "ActName"
 FACTS = "SHOWN"
 

@@ -69,11 +69,6 @@ class TellerElectionTest(boxes.BoxElectionTest):
         ended = self.election("desk", given="".join(f"{name} paper\n" for name in names))
         self.assertEqual(ended.status, 0, ended)
 
-    def close(self, *words: object) -> str:
-        """Closes after the end."""
-        self.off(10 * 365 * 86_400 * 8)
-        return self.told("close", *words)
-
     def close_early(self, *words: object) -> str:
         return self.told("close", "--early", "--yes", *words)
 

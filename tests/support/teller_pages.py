@@ -4,7 +4,7 @@ import base64
 import json
 import pathlib
 import tempfile
-from typing import Any
+from collections.abc import Sequence
 
 from debvote_tools.call.lists import text_of
 from debvote_tools.call.teller_page import teller_page
@@ -91,7 +91,7 @@ class TellerPage:
         self,
         lists: list[bytes],
         voted: str,
-        *keys: str,
+        keys: Sequence[str],
         checksums: tuple[str, str] = ("", ""),
         is_newest: bool = True,
     ) -> str:
@@ -117,6 +117,3 @@ class TellerPage:
         self.choose("All-lists", *lists)
         said = self.press("Find")
         return said or self.text("Found")
-
-    def state(self) -> dict[str, Any]:
-        return {"opened": self.lines("Opened"), "shown": self.lines("Shown")}

@@ -20,7 +20,6 @@ from debvote_tools.call.lists import (
     bytes_of,
     cipher,
     is_opened,
-    list_name,
     point_of,
     read_list,
     text_of,
@@ -40,6 +39,10 @@ def points(count: int = 2) -> dict[str, str]:
 
 def tellers_file(count: int = 2) -> str:
     return "".join(f"{name} {point}\n" for name, point in points(count).items())
+
+
+def list_name(step: int) -> str:
+    return f"list-{step}.txt"
 
 
 def inside_of(step: int, name: str, mark: str, block: str) -> bytes | None:

@@ -19,6 +19,13 @@ MADE_FROM = "made-from"
 LEFT_OUT = {"must-fail", "proofs", "out"}
 
 
+def made_in(repository):
+    """The programs that `rt ci` has built there."""
+    for crate in (repository / "crates").iterdir():
+        names = crate.name, f"{crate.name}_tests"
+        yield from (crate / "out" / name for name in names if (crate / "out" / name).is_file())
+
+
 def checksums(root):
     """The checksums of the proved program and of what was proved, as sha256sum writes them."""
     files = [root / PROGRAM, root / "HANDLES"]

@@ -87,13 +87,13 @@ def place_of(name: str, link: str | None = None, own: str | None = None) -> str:
     return f"{name}/{own or OWNS.get(name, '2' * 10)}/{third}"
 
 
-def text_of(name: str, line: str, number: int, place: str = "", public: str = PUBLIC) -> str:
+def text_of(name: str, line: str, number: int, place: str = "") -> str:
     """A ballot that is sealed; by the device, too, the one with the greater number is the later
     one.
     """
     sent = datetime.datetime(2026, 1, 1, tzinfo=datetime.UTC) + datetime.timedelta(seconds=number)
     text = sealing.inside(line, place or place_of(name), f"{sent:%Y-%m-%dT%H:%M:%S}.000Z")
-    return sealing.sealed(public, MARK, f"{number:032x}", text)
+    return sealing.sealed(PUBLIC, MARK, f"{number:032x}", text)
 
 
 def ballot(

@@ -52,7 +52,8 @@ VIEWS = pathlib.Path(__file__).with_name("views.sql")
 # the views of the book that hold lines, as they are for one question: `views.sql` reads them then.
 # Their `answer` is debvote's, why it refuses the line; `ballot` has refused lines, too
 ONE_QUESTION = """CREATE TEMP VIEW {view} AS SELECT * FROM (
-  SELECT envelope, act, elector, part_of(line, '{label}') AS line, source, letter, place, time, late, answer, struck FROM main.{view}
+  SELECT envelope, act, elector, part_of(line, '{label}') AS line, source, letter, place, time, late,
+    answer, struck FROM main.{view}
 ) WHERE line IS NOT NULL"""
 VIEWS_OF_LINES = ("entered", "ballot")
 
@@ -198,9 +199,9 @@ class Book:
     def last_number(self) -> int:
         return self.last_act().number
 
-    def digest_at(self, act: int) -> str | None:
+    def digest_at(self, number: int) -> str | None:
         """The digest of an act; None if there is no such act."""
-        digest: str | None = self.value("SELECT max(digest) FROM act WHERE act = ?", act)
+        digest: str | None = self.value("SELECT max(digest) FROM act WHERE act = ?", number)
         return digest
 
     def demand_whole(self) -> None:
@@ -296,13 +297,13 @@ class Book:
         self.own_acts[act.number] = act.name
         return digest
 
-    def is_there(self, act: int) -> bool:
+    def is_there(self, number: int) -> bool:
         """Whether an act is in the book although its commit failed; then nobody knows whether it
         stays.
         """
         try:
             self.connection.rollback()
-            return self.digest_at(act) is not None
+            return self.digest_at(number) is not None
         except (sqlite3.Error, Fault):
             # by the journal, the next command that can write takes the act back
             return not self.path.with_name(f"{self.path.name}-journal").exists()
@@ -325,10 +326,10 @@ class Book:
                 last = self.last_act()
                 self.note().put(Note(last.number, last.digest, self.names), is_moved=is_moved)
 
-    def note_done(self, name: str, act: int) -> None:
+    def note_done(self, name: str, number: int) -> None:
         """Notes that something is done up to an act, if a note can be written."""
         with contextlib.suppress(Fault, OSError):
-            self.note().put_done(name, act)
+            self.note().put_done(name, number)
 
     def strangeness(self) -> str | None:
         """Why this is not the book that this machine knows; None if it is."""
@@ -340,7 +341,10 @@ class Book:
         if digest is None:
             lacking = collections.Counter(noted.names) - self.names
             acts = ", ".join(f"{name} ({count})" for name, count in lacking.items())
-            return f"it ends with act {last.number}, and this computer has seen act {noted.act}: it is an older copy, which lacks {acts}"
+            return (
+                f"it ends with act {last.number}, and this computer has seen act {noted.act}: it "
+                f"is an older copy, which lacks {acts}"
+            )
         if digest != noted.digest:
             return f"its act {noted.act} is not the one that this computer saw: somebody went on from a copy, or made the book anew"
         if last.machine != self.machine:
@@ -350,7 +354,11 @@ class Book:
     def demand_noted(self) -> None:
         reason = self.strangeness()
         if reason is not None:
-            cure = "find out how that came about; if it is the right book, as after a move to this computer or folder, repeat the command with --moved --because TEXT (the result page says so)"
+            cure = (
+                "find out how that came about; if it is the right book, as after a move to this "
+                "computer or folder, repeat the command with --moved --because TEXT (the result "
+                "page says so)"
+            )
             raise Fault(self.path, reason, cure)
 
     def accept(self, because: str) -> None:

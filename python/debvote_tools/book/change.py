@@ -61,7 +61,7 @@ class Change:
         act.insert_all("sealed", "name, data", self.sealed.items())
         outgoing.note(act, self.written)
 
-    def report(self, act: int) -> None:
+    def report(self, number: int) -> None:
         """What is told of the act, whose number this is, before an interrupt can end the run."""
 
     def do(self, book: Book, seen: int) -> None:

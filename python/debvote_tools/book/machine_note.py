@@ -92,11 +92,11 @@ class MachineNote:
             if before is None or before.act < note.act:
                 self.replace(note._replace(done=before.done if before else {}))
 
-    def put_done(self, name: str, act: int) -> None:
+    def put_done(self, name: str, number: int) -> None:
         """Notes that something is done up to an act of the book that is noted."""
         with self.under_lock():
             if before := self.read():
-                self.replace(before._replace(done={**before.done, name: act}))
+                self.replace(before._replace(done={**before.done, name: number}))
 
     def replace(self, note: Note) -> None:
         self.write_next(self.as_bytes(note))
@@ -116,9 +116,10 @@ class MachineNote:
     def put_points(self, book: str, points: Iterable[str]) -> None:
         """Notes the points of the call of a book, in place of those of an earlier one."""
         with self.under_lock():
-            others = {point: other for point, other in self.points().items() if other != book}
-            content = json.dumps(others | dict.fromkeys(points, book)).encode()
-            write_whole(self.points_file, content, 0o600)
+            noted = self.points()
+            others = {point: other for point, other in noted.items() if other != book}
+            if (now := others | dict.fromkeys(points, book)) != noted:
+                write_whole(self.points_file, json.dumps(now).encode(), 0o600)
 
     def write_next(self, content: bytes) -> None:
         """Writes over what is to take the place of the note, with the room of the longest note."""

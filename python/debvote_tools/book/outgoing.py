@@ -56,7 +56,8 @@ DETAIL = "message_id address for_act time about by_server reply".split()
 LETTERS = """
 WITH named AS (
   SELECT *, min(sent) OVER (PARTITION BY id) AS first FROM (
-    SELECT *, coalesce(nullif(detail ->> 'message_id', ''), sent) AS id FROM sent WHERE kind = coalesce(?, kind) AND elector = coalesce(?, elector)
+    SELECT *, coalesce(nullif(detail ->> 'message_id', ''), sent) AS id FROM sent
+    WHERE kind = coalesce(?, kind) AND elector = coalesce(?, elector)
   )
 ), written AS (SELECT *, max(sent) FROM named WHERE state = 'written' GROUP BY id
 ), last AS (SELECT id, state, detail ->> 'reply' AS reply, max(sent) FROM named GROUP BY id)
@@ -104,7 +105,8 @@ WITH marked AS MATERIALIZED (
 UNREACHED = f"""
 {MARKED}, ours AS (
   SELECT elector, kind, act, state, since, detail ->> 'address' AS address, detail ->> 'for_act' AS for_act,
-    detail ->> 'reply' AS reply, detail ->> 'by_server' AS by_server, max(sent) AS last, total(state = 'taken' AND act >= since) AS taken
+    detail ->> 'reply' AS reply, detail ->> 'by_server' AS by_server, max(sent) AS last,
+    total(state = 'taken' AND act >= since) AS taken
   FROM sent JOIN marked USING (elector) WHERE act > ?2 GROUP BY elector, address, kind, for_act, detail ->> 'message_id'
 ), answered AS MATERIALIZED (
   SELECT elector, address, act, state, reply, total(kind = 'call' AND for_act <> ?3 AND (
@@ -151,7 +153,8 @@ def call_addresses(book: Book, call: int) -> dict[str, list[str]]:
     """
     query = (
         "SELECT name, detail ->> 'address' AS address FROM sent JOIN elector USING (elector) "
-        "WHERE kind = 'call' AND sent.act > ? AND address <> '' GROUP BY 1, 2 HAVING max(state = 'taken') OR NOT max(state = 'refused')"
+        "WHERE kind = 'call' AND sent.act > ? AND address <> '' GROUP BY 1, 2 HAVING max(state "
+        "= 'taken') OR NOT max(state = 'refused')"
     )
     return grouped(book.rows(query, call))
 

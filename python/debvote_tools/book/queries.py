@@ -72,14 +72,14 @@ def put_electors(act: NewAct, electors: Iterable[Elector]) -> None:
 
 
 # ---- what is sealed
-def sealed(book: Book, name: str, act: int | None = None) -> bytes:
+def sealed(book: Book, name: str, number: int | None = None) -> bytes:
     """What was sealed under a name by the last act that did so; nothing if none did."""
     query = """
       SELECT coalesce((
         SELECT data FROM sealed WHERE name = ?1 AND act = coalesce(?2, act) ORDER BY act DESC LIMIT 1
       ), x'')
     """
-    return bytes(book.value(query, name, act))
+    return bytes(book.value(query, name, number))
 
 
 def first_act_that_sealed(book: Book, name: str, data: bytes) -> int:
@@ -88,13 +88,13 @@ def first_act_that_sealed(book: Book, name: str, data: bytes) -> int:
     return int(book.value(query, name, data))
 
 
-def sealed_polls(book: Book, name: str, act: int) -> dict[str, bytes]:
+def sealed_polls(book: Book, name: str, number: int) -> dict[str, bytes]:
     """The polls that an act sealed under a name, by their labels, which are behind it."""
     query = """
       SELECT ltrim(substr(name, length(?1) + 1)), data FROM sealed
       WHERE act = ?2 AND (name = ?1 OR name GLOB ?1 || ' ?') ORDER BY name
     """
-    return dict(book.rows(query, name, act))
+    return dict(book.rows(query, name, number))
 
 
 def labels_of(book: Book) -> list[str]:
@@ -103,7 +103,8 @@ def labels_of(book: Book) -> list[str]:
     """
     polls = "(name = 'poll' OR name GLOB 'poll ?')"
     rows = book.rows(
-        f"SELECT ltrim(substr(name, 5)) FROM sealed WHERE {polls} AND act = (SELECT max(act) FROM sealed WHERE {polls}) ORDER BY name"
+        f"SELECT ltrim(substr(name, 5)) FROM sealed WHERE {polls} AND act = (SELECT max(act) "
+        f"FROM sealed WHERE {polls}) ORDER BY name"
     )
     return [""] if book.label or not rows else [label for label, in rows]
 
@@ -148,9 +149,9 @@ def last_act_that_sealed(book: Book, name: str) -> int:
     return int(book.value("SELECT coalesce(max(act), 0) FROM sealed WHERE name = ?", name))
 
 
-def acts_since(book: Book, act: int) -> list[tuple[int, str]]:
+def acts_since(book: Book, number: int) -> list[tuple[int, str]]:
     """Number and name of each act since one."""
-    return book.rows("SELECT act, name FROM act WHERE act > ? ORDER BY act", act)
+    return book.rows("SELECT act, name FROM act WHERE act > ? ORDER BY act", number)
 
 
 # ---- envelopes
@@ -357,12 +358,12 @@ def add_envelopes(
     act.insert_all("envelope", "elector, line, place, source, letter, time, late, answer", rows)
 
 
-def entered_by(book: Book, act: int) -> tuple[int, set[int], list[tuple[bytes, str | None]]]:
+def entered_by(book: Book, number: int) -> tuple[int, set[int], list[tuple[bytes, str | None]]]:
     """What an act entered: the number of its first envelope, the electors, and the lines, each with
     why debvote refuses it.
     """
     query = "SELECT envelope, elector, line, answer FROM envelope WHERE act = ? ORDER BY 1"
-    rows = book.rows(query, act)
+    rows = book.rows(query, number)
     electors = {elector for _, elector, *_ in rows if elector is not None}
     return rows[0][0] if rows else 0, electors, [(line, why) for _, _, line, why in rows]
 
@@ -630,33 +631,40 @@ class KeptRecord(NamedTuple):
     is_dated_alike: bool
 
 
-def records_since(book: Book, act: int) -> list[KeptRecord]:
+def records_since(book: Book, number: int) -> list[KeptRecord]:
     """The records of the box that came since an act."""
     query = f"""
       SELECT detail ->> '$.box.at' AS at, known ->> 'digest', known ->> 'link', known ->> 'sent' AS sent,
         abs(unixepoch(known ->> 'arrived') + (known ->> 'behind') - unixepoch(known ->> 'sent')) <= {DEVICE_OFF}
       FROM letter JOIN act USING (act) WHERE act > ? AND at IS NOT NULL
     """
-    return [KeptRecord(*row) for row in book.rows(query, act)]
+    return [KeptRecord(*row) for row in book.rows(query, number)]
 
 
-class CountingBallot(NamedTuple):
-    """The ballot that counts of an elector in a vote with tellers: a line of the check-off, and of
-    a click what is sealed to them; of a line that came by no record that is empty.
-    """
+class Click(NamedTuple):
+    """A click that counts in a vote with tellers: whose it is, and what is sealed to them."""
 
     elector: str
-    line: str
     block: str
     envelope: int
 
 
-def counting_ballots(book: Book) -> list[CountingBallot]:
-    statement = """
-      SELECT name, CAST(line AS TEXT), coalesce(known ->> 'block', ''), envelope
-      FROM fate JOIN elector USING (elector) LEFT JOIN letter USING (letter) WHERE became = 'counts' ORDER BY envelope
+def counting_clicks(book: Book, ranks: str) -> list[Click]:
+    """The ballots that came by a record, and count, with these ranks: in the order in which by the
+    host their electors first sent what is sealed in them, those for which it has no time last.
     """
-    return [CountingBallot(*row) for row in book.rows(statement)]
+    statement = """
+      SELECT name, block, envelope FROM fate JOIN elector USING (elector)
+      JOIN (SELECT letter, known ->> 'block' AS block FROM letter WHERE block <> '') USING (letter)
+      LEFT JOIN (
+        SELECT known ->> 'elector' AS name, known ->> 'block' AS block,
+          min(unixepoch(known ->> 'arrived')) AS arrived, min(letter) AS sent
+        FROM letter WHERE known ->> 'arrived' IS NOT NULL GROUP BY 1, 2
+      ) USING (name, block)
+      WHERE became = 'counts' AND CAST(line AS TEXT) = name || ' ' || ?
+      ORDER BY arrived IS NULL, arrived, sent, envelope
+    """
+    return [Click(*row) for row in book.rows(statement, ranks)]
 
 
 def electors_with(book: Book, ranks: str) -> set[str]:
@@ -666,25 +674,24 @@ def electors_with(book: Book, ranks: str) -> set[str]:
 
 
 class KeptBlock(NamedTuple):
-    """What a record has that is sealed to tellers, whose it is, and when it arrived by the host."""
+    """Who sent first what is sealed to tellers, and when it arrived by the host."""
 
-    block: str
     elector: str
     arrived: datetime.datetime
     letter: int
 
 
-def kept_blocks(book: Book) -> list[KeptBlock]:
-    """All that came, by the times of the host."""
+def first_blocks(book: Book) -> dict[str, KeptBlock]:
+    """The first records of all that is sealed to tellers, by that."""
+    # of the same block the first comes last
     statement = """
       SELECT known ->> 'block' AS block, known ->> 'elector', known ->> 'arrived' AS arrived, letter FROM letter
-      WHERE block <> '' AND arrived IS NOT NULL ORDER BY unixepoch(arrived), letter
+      WHERE block <> '' AND arrived IS NOT NULL ORDER BY unixepoch(arrived) DESC, letter DESC
     """
-    rows = book.rows(statement)
-    return [
-        KeptBlock(block, elector, from_text(arrived), letter)
-        for block, elector, arrived, letter in rows
-    ]
+    return {
+        block: KeptBlock(elector, from_text(arrived), letter)
+        for block, elector, arrived, letter in book.rows(statement)
+    }
 
 
 def source_of(book: Book, source: int) -> bytes:

@@ -44,15 +44,21 @@ LOOPBACK = ("localhost", "127.0.0.1", "::1")
 SENTENCES = marked(
     {
         "sending": "It is being sent ..",
-        "received": "It has arrived, sent {time}. The secretary fetches it, and you get a receipt by e-mail that names this time, and says how it was read. If none comes, or it says otherwise, tell the secretary.",
-        "late": "It has arrived, sent {time}, after {end}, the end that this page knows. If the vote was extended it may still count: you get a receipt by e-mail that says so. If none comes, tell the secretary.",
+        "received": "It has arrived, sent {time}. The secretary fetches it, and you get a receipt by "
+        "e-mail that names this time, and says how it was read. If none comes, or it says "
+        "otherwise, tell the secretary.",
+        "late": "It has arrived, sent {time}, after {end}, the end that this page knows. If the "
+        "vote was extended it may still count: you get a receipt by e-mail that says so. If "
+        "none comes, tell the secretary.",
         "changed": "The choice has been changed, and is not sent yet.",
         "old": "It was not taken: this page is an older one. Load it again. If this comes again, answer your newest letter.",
-        "unknown": "It was not taken: this page does not know your link. Open the newest letter of this vote, or send your ballot by e-mail.",
+        "unknown": "It was not taken: this page does not know your link. Open the newest letter of "
+        "this vote, or send your ballot by e-mail.",
         "many": "It was not taken: too many ballots came by your link. Send your ballot by e-mail.",
         "lost": "It was not taken. Send your ballot by e-mail.",
         "unsure": "Nobody knows whether it has arrived. Press the button again: it counts once. Or send your ballot by e-mail.",
-        "over": "Nobody knows whether it has arrived, and by the clock of this device the time is over. If no receipt comes, tell the secretary.",
+        "over": "Nobody knows whether it has arrived, and by the clock of this device the time is "
+        "over. If no receipt comes, tell the secretary.",
         "unsealed": "This browser can't seal a ballot. Open the link in another one.",
     }
 )
@@ -61,12 +67,16 @@ SENTENCES = marked(
 SECRET_SENTENCES = marked(
     {
         "type_name": "To vote here by a click, open the link in your own letter.",
-        "received": "It has arrived, sent {time}. A receipt by e-mail with this time says whether it counts, and not what is in it. If none comes, or one for a ballot that is not yours, tell the secretary.",
+        "received": "It has arrived, sent {time}. A receipt by e-mail with this time says whether it "
+        "counts, and not what is in it. If none comes, or one for a ballot that is not "
+        "yours, tell the secretary.",
         "old": "It was not taken: this page is an older one. Load it again. If this comes again, ask the secretary.",
-        "unknown": "It was not taken: this page does not know your link. Open the newest letter of this vote. Or ask the secretary: an e-mail can be read on its way.",
+        "unknown": "It was not taken: this page does not know your link. Open the newest letter of "
+        "this vote. Or ask the secretary: an e-mail can be read on its way.",
         "many": "It was not taken: too many ballots came by your link. Ask the secretary.",
         "lost": "It was not taken. Try again later, or ask the secretary: an e-mail can be read on its way.",
-        "unsure": "Nobody knows whether it has arrived. Press the button again: it counts once. Or ask the secretary: an e-mail can be read on its way.",
+        "unsure": "Nobody knows whether it has arrived. Press the button again: it counts once. Or "
+        "ask the secretary: an e-mail can be read on its way.",
     }
 )
 

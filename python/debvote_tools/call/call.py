@@ -13,13 +13,8 @@ from debvote_tools.book.book import Detail
 from debvote_tools.book.queries import Elector
 from debvote_tools.call import box
 from debvote_tools.call.form import PACKAGE, OF_BOX, script_of_form, style_of_form, tellers_script
-from debvote_tools.call.tellers import (
-    fingerprints,
-    program_files,
-    script_line,
-    tellers_file,
-)
-from debvote_tools.election import LETTER_TEXT, TELLERS, Election, History, Sealed
+from debvote_tools.call.tellers import files_beside, fingerprints, script_line
+from debvote_tools.election import LETTER_TEXT, Election, History, Sealed
 from debvote_tools.files import sha256_of
 from debvote_tools.poll.questions import Questions
 from debvote_tools.poll.sealed import SealedPoll, in_brackets
@@ -53,7 +48,8 @@ SENTENCES = marked(
 OF_TELLERS = marked(
     {
         "sealed_to": "Sealed to {name} {fingerprint}: compare with your letter.",
-        "number": "Your number: {number}. Write it down, show it to nobody. In the result it has to stand beside your ranks. If you vote again, the new one holds.",
+        "number": "Your number: {number}. Write it down, show it to nobody. In the result it has to "
+        "stand beside your ranks. If you vote again, the new one holds.",
         "perhaps": "If it arrived, your number is {number}. Write it down, show it to nobody.",
     }
 )
@@ -151,10 +147,6 @@ class CallData:
         if self.has_box:
             link = box.personal_link(self.box_key, elector.name, elector.mark)
         return f"{self.at}#{link}"
-
-    @property
-    def teller_names(self) -> str:
-        return self.language.joined(list(self.tellers))
 
     @property
     def fingerprints(self) -> str:
@@ -298,7 +290,7 @@ def call_files(call: CallData) -> dict[str, bytes]:
     if not call.has_codes_on_roll:
         files |= call.questions.files
     if call.tellers:
-        files |= {TELLERS: tellers_file(call.tellers)} | program_files()
+        files |= files_beside(call.tellers)
     checksums = "".join(f"{sha256_of(files[name])}  {name}\n" for name in sorted(files))
     return files | {"SHA256SUMS": checksums.encode()}
 

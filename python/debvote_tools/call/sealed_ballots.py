@@ -18,18 +18,8 @@ try:
     from cryptography.exceptions import InvalidTag
     from cryptography.hazmat.primitives.asymmetric import ec
 
-    from debvote_tools.call.lists import (
-        CURVE,
-        NONCE,
-        ORDER,
-        POINT,
-        bytes_of,
-        cipher,
-        layer,
-        padded,
-        point_of,
-        text_of,
-    )
+    # for who reads lists, too
+    from debvote_tools.call import lists as lists
 except ImportError:
     words = "this computer can seal and open no ballot"
     raise Fault("--box", words, "install python3-cryptography") from None
@@ -43,8 +33,8 @@ def key_pair(key: bytes, mark: str) -> tuple[str, Callable[[str, str], str]]:
     """
     # from more bits than it has (FIPS 186-5, A.2.1)
     number = int.from_bytes(hmac.digest(key, f"seal {mark}".encode(), "sha512"))
-    private = ec.derive_private_key(number % (ORDER - 1) + 1, CURVE)
-    public = point_of(private)
+    private = ec.derive_private_key(number % (lists.ORDER - 1) + 1, lists.CURVE)
+    public = lists.point_of(private)
     return base64.b64encode(public).decode(), functools.partial(opened, private, public, mark)
 
 
@@ -53,18 +43,16 @@ def opened(
 ) -> str:
     data = base64.b64decode(text, b"-_", validate=True)
     # behind a shorter point, which may be compressed, is nothing that could be opened
-    point = data[:POINT]
-    opening = cipher(private, point, "debvote box 2", point, public)
+    point = data[: lists.POINT]
+    opening = lists.cipher(private, point, "debvote box 2", point, public)
     try:
-        inside = opening.decrypt(NONCE, data[POINT:], f"{mark} {number}".encode())
+        inside = opening.decrypt(lists.NONCE, data[lists.POINT :], f"{mark} {number}".encode())
     except InvalidTag:
         raise ValueError from None
     return inside.decode("ascii").rstrip("\n")
 
 
 def block_of(line: str, options: int, mark: str, points: Sequence[str]) -> str:
-    """A number with its ranks, sealed to the tellers with these points, to the last one first."""
-    block = padded(line, options)
-    for step, point in reversed([*enumerate(points, start=1)]):
-        block = layer(step, bytes_of(point), mark, block, ec.generate_private_key(CURVE))
-    return text_of(block)
+    """A number with its ranks, sealed to the tellers with these points."""
+    keys = [ec.generate_private_key(lists.CURVE) for _ in points]
+    return lists.ballot_in_lists(line, options, mark, points, keys)[0]

@@ -20,7 +20,10 @@ from debvote_tools.text.rendering import render_page, resources
 
 # what an elector types to find their alias; the first asks for both, so that no history of commands
 # keeps the code
-BY_PYTHON = "python3 -I -c \"import hmac; print(hmac.new(input('Code: ').replace(' ', '').encode(), input('Name: ').encode(), 'sha256').hexdigest()[:32])\""
+BY_PYTHON = (
+    "python3 -I -c \"import hmac; print(hmac.new(input('Code: ').replace(' ', '').encode(), "
+    "input('Name: ').encode(), 'sha256').hexdigest()[:32])\""
+)
 BY_OPENSSL = "printf %s NAME | openssl dgst -sha256 -hmac CODE -r | cut -c1-32"
 
 # how many rows of slips fit on a side, by the lines of each, which have at least so many columns
@@ -95,7 +98,6 @@ def harmless(cell: str) -> str:
 
 def slips(call: CallData, electors: Sequence[Elector]) -> bytes:
     """The page of slips, to be cut. With codes on the roll the name is the code."""
-    rows = next((rows for rows, most in ROWS.items() if lines_of_slip(call, electors) <= most), 1)
     return render_page(
         PACKAGE,
         "slips.html",
@@ -103,8 +105,13 @@ def slips(call: CallData, electors: Sequence[Elector]) -> bytes:
         style=resources(PACKAGE, "slips.css"),
         call=call,
         electors=electors,
-        rows=rows,
+        rows=rows_of(lines_of_slip(call, electors)),
     )
+
+
+def rows_of(lines: float) -> int:
+    """How many rows of slips with so many lines fit on a side."""
+    return next((rows for rows, most in ROWS.items() if lines <= most), 1)
 
 
 def lines_of_slip(call: CallData, electors: Sequence[Elector]) -> float:
@@ -125,10 +132,14 @@ def blank_slips(call: CallData, number: int) -> bytes:
     [poll] = call.questions.values()
     lines = 9 + len(poll.name.encode()) // COLUMNS
     lines += sum(len(name.encode()) // COLUMNS + 2 for name in poll.names)
-    rows = next((rows for rows, most in ROWS.items() if lines <= most), 1)
-    style = resources(PACKAGE, "slips.css")
     return render_page(
-        PACKAGE, "blank_slips.html", call.language, style=style, poll=poll, number=number, rows=rows
+        PACKAGE,
+        "blank_slips.html",
+        call.language,
+        style=resources(PACKAGE, "slips.css"),
+        poll=poll,
+        number=number,
+        rows=rows_of(lines),
     )
 
 

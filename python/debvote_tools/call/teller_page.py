@@ -5,9 +5,7 @@ them, their script and styles by digests, and the digests of their tags (`tags.t
 docs/make-teller collects).
 """
 
-import base64
 import functools
-import hashlib
 import pathlib
 import re
 
@@ -16,7 +14,14 @@ from debvote_tools.call.form import OF_BOX, PACKAGE, style_of_form, tellers_scri
 from debvote_tools.cli.faults import Fault, Status
 from debvote_tools.files import sha256_of
 from debvote_tools.text.language import LANGUAGES, Language, language_of, marked
-from debvote_tools.text.rendering import policy_of, render_page, resources, style_of
+from debvote_tools.text.rendering import (
+    checksum_source,
+    digest_of,
+    policy_of,
+    render_page,
+    resources,
+    style_of,
+)
 
 # the digests of tags: what may be in a page beside its texts
 TAGS = pathlib.Path(__file__).with_name("tags.txt")
@@ -34,15 +39,19 @@ SENTENCES = marked(
         "form": "A file is none of these, or was changed.",
         "name": "A name has only small letters without accents, digits, points and hyphens, and at most 32 of them.",
         "key": "Choose the key, or both halves of one key.",
-        "page": "This is no page of a vote with tellers, byte for byte as this version makes it. A browser changes a page that it saves as complete or as a single file: save it once more, as HTML only. If it stays so, tell the secretary and all members.",
+        "page": "This is no page of a vote with tellers, byte for byte as this version makes it. A "
+        "browser changes a page that it saves as complete or as a single file: save it once "
+        "more, as HTML only. If it stays so, tell the secretary and all members.",
         "another": "THIS PAGE SEALS TO ANOTHER KEY: tell all members.",
-        "looked": "This page seals step {step} to this key. It is as version {version} makes it. Compare its title, options and fingerprints with your letter.",
+        "looked": "This page seals step {step} to this key. It is as version {version} makes it. "
+        "Compare its title, options and fingerprints with your letter.",
         "missing": "Choose all files.",
         "secretary": "the secretary",
         "unsigned": "The list of {name} is not signed by {name}. Do not go on.",
         "other": "{name} was given another {list} than this: {other} and {name} have to show theirs. Do not go on.",
         "count": "{name} handed on another number of ballots than came. Do not go on.",
-        "counts": "{count} ballots. {clicks} members voted by a click, {paper} on paper; {spoilt} slips were spoilt: compare with the letter.",
+        "counts": "{count} ballots. {clicks} members voted by a click, {paper} on paper; {spoilt} "
+        "slips were spoilt: compare with the letter.",
         "by_click": "By a click:",
         "on_paper": "On paper:",
         "refused": "Refused by tellers before you:",
@@ -68,7 +77,7 @@ def teller_file(language: Language) -> str:
 @functools.cache
 def teller_page(language: Language) -> bytes:
     styles = (
-        f"{code}:{digest(style_of(style_of_form(*OF_BOX), language_of(code)))}"
+        f"{code}:{digest_of(style_of(style_of_form(*OF_BOX), language_of(code)))}"
         for code in LANGUAGES
     )
     return render_page(
@@ -81,8 +90,8 @@ def teller_page(language: Language) -> bytes:
         script_words=language.words(SENTENCES),
         before=beginning(),
         styles=" ".join(styles),
-        script_digest=digest(tellers_script()),
-        tags=TAGS.read_text().replace("\n", " ").strip(),
+        script_digest=digest_of(tellers_script()),
+        tags=" ".join(TAGS.read_text().split()),
         version=VERSION,
     )
 
@@ -108,25 +117,19 @@ def installed_page(language: Language) -> pathlib.Path:
 
 def beginning() -> str:
     """What each page of a vote with tellers begins with, up to the end of its policy."""
-    policy = policy_of(
-        "'sha256-STYLE'", ["'sha256-LINE'", f"'sha256-{digest(tellers_script())}'"], sends=True
+    scripts = ["'sha256-LINE'", checksum_source(tellers_script())]
+    policy = policy_of("'sha256-STYLE'", scripts, sends=True)
+    head = (
+        '<!DOCTYPE html>\n<html lang="LANG">\n<head>\n<meta charset="utf-8">\n<meta '
+        'name="viewport" content="width=device-width, initial-scale=1">\n'
     )
-    head = '<!DOCTYPE html>\n<html lang="LANG">\n<head>\n<meta charset="utf-8">\n<meta name="viewport" content="width=device-width, initial-scale=1">\n'
     return f'{head}<meta http-equiv="Content-Security-Policy" content="{policy}">\n'
-
-
-def digest(text: str) -> str:
-    return base64.b64encode(hashlib.sha256(text.encode()).digest()).decode()
 
 
 def tags_in(page: str) -> set[str]:
     """The digests of the tags behind the policy of a page, as the page of a teller compares them:
     without the values that are of a vote.
     """
-    rest = INNER.sub(r"<\1></\1>", page.partition('">\n<title>')[2])
-    tags = {*re.findall("<[^>]*>", f"<title>{rest}")}
-    bare = (
-        NUMBERED.sub(lambda part: re.sub(r"\d+", "0", part[0]), FREE.sub(r' \1=""', tag))
-        for tag in tags
-    )
-    return {digest(tag)[:22] for tag in bare}
+    bare = INNER.sub(r"<\1></\1>", page[page.index("<title>") :])
+    bare = NUMBERED.sub(lambda part: re.sub(r"\d+", "0", part[0]), FREE.sub(r' \1=""', bare))
+    return {digest_of(tag)[:22] for tag in re.findall("<[^>]*>", bare)}

@@ -11,16 +11,15 @@ other one is signed by the teller who made it. `lists.py` reads and checks them.
 
 import dataclasses
 import re
-import secrets
-from collections.abc import Iterable, Mapping, Sequence
+from collections.abc import Collection, Iterable, Mapping, Sequence
 
 from debvote_tools.book import queries
 from debvote_tools.book.book import Book
 from debvote_tools.cli.faults import Fault, bad_words
-from debvote_tools.election import TELLERS, URN, Election, History
+from debvote_tools.election import TELLERS, URN, Election, History, Sealed
 from debvote_tools.files import read_text, sha256_of
 from debvote_tools.poll.questions import Questions
-from debvote_tools.poll.sealed import OWN_SIGNS, SealedPoll, with_roll
+from debvote_tools.poll.sealed import SealedPoll, new_own_mark, with_roll
 from debvote_tools.text.rendering import resources
 
 # in bytes, of the file that the secretary writes
@@ -48,9 +47,8 @@ def tellers_in(election: Election) -> dict[str, str]:
     file = election.path(TELLERS)
     if not file.exists():
         return {}
-    from debvote_tools.call import lists, sealed_ballots
+    from debvote_tools.call.sealed_ballots import lists
 
-    assert sealed_ballots
     write = (
         "write into it what each teller sent you, a line for each, in the order in which they open"
     )
@@ -63,8 +61,14 @@ def tellers_in(election: Election) -> dict[str, str]:
         raise bad_words(file, words, write) from None
 
 
-def tellers_file(tellers: Mapping[str, str]) -> bytes:
-    return "".join(f"{name} {point}\n" for name, point in tellers.items()).encode()
+def text_file(lines: Iterable[str]) -> bytes:
+    return "".join(f"{line}\n" for line in lines).encode()
+
+
+def files_beside(tellers: Mapping[str, str]) -> dict[str, bytes]:
+    """What lies beside call and result, by which everybody can check the lists."""
+    program = resources("debvote_tools.call", "lists.py").encode()
+    return {TELLERS: text_file(map(" ".join, tellers.items())), "lists.py": program}
 
 
 def fingerprint(point: str) -> str:
@@ -104,16 +108,13 @@ def places_for(count: int) -> tuple[str, ...]:
     return tuple(f"{place:0{digits}}" for place in range(1, count + 1))
 
 
-def public_poll(questions: Questions) -> Questions:
-    """The same poll, with a place for each elector in place of the names."""
-    places = places_for(len(questions.roll))
-    return Questions({label: with_roll(poll, places) for label, poll in questions.items()})
-
-
-def check_off(questions: Questions) -> Questions:
-    """By names, who has voted in which way: what the book counts, and nobody decides by."""
-    poll = dataclasses.replace(
-        questions[""],
+def for_tellers(questions: Questions) -> Sealed:
+    """The poll with a place for each elector in place of the names; and by these who has voted in
+    which way, the check-off: what the book counts, and nobody decides by.
+    """
+    poll = questions[""]
+    check_off = dataclasses.replace(
+        poll,
         options=("By a click", "On paper"),
         ratios=(1, 1),
         default="Not at all",
@@ -123,80 +124,65 @@ def check_off(questions: Questions) -> Questions:
         explanations=(),
         motion=False,
     )
-    return Questions({"": poll})
+    places = with_roll(poll, places_for(len(poll.roll)))
+    return Sealed(Questions({"": places}), Questions({"": check_off}))
 
 
 # ---- ballots
-def block_length(options: int, tellers: int) -> int:
-    """In signs, of what is sealed to so many tellers."""
-    return 4 * (3 + options + 27 * tellers)
-
-
 def has_right_block(poll: SealedPoll, tellers: int, line: str, block: str, record: int) -> bool:
     """Whether a record of so many signs has what the tellers alone can open, as the page makes it:
     its length tells nothing.
     """
-    from debvote_tools.call.lists import is_block
+    from debvote_tools.call.lists import block_length
 
     options = len(poll.names)
     length = block_length(options, tellers)
     # in bytes, with point and tag of what is sealed to the secretary
-    inside = -(-(3 * (42 + options) + length) // 3) * 3
+    inside = 3 * (42 + options + -(-length // 3))
     is_alike = record == (inside + 81) // 3 * 4
-    return is_alike and line.endswith(f" {BY_CLICK}") and is_block(block, length)
+    return is_alike and line.endswith(f" {BY_CLICK}") and len(block) == length
 
 
 def sealed_slips(
-    poll: SealedPoll, mark: str, tellers: Mapping[str, str], slips: Iterable[str]
+    public: Questions, tellers: Mapping[str, str], slips: Collection[str]
 ) -> dict[str, str]:
     """The blocks of ballots on paper, by numbers with their ranks, which are drawn here."""
     from debvote_tools.call.sealed_ballots import block_of
 
-    slips = [*slips]
-    places = [len(OWN_SIGNS) ** place for place in range(NUMBER_LENGTH)]
-    # none is drawn twice
-    drawn = secrets.SystemRandom().sample(range(len(OWN_SIGNS) * places[-1]), len(slips))
-    signs = ([OWN_SIGNS[one // place % len(OWN_SIGNS)] for place in places] for one in drawn)
-    lines = [f"{''.join(number)} {ranks}" for number, ranks in zip(signs, slips)]
+    numbers = set[str]()
+    while len(numbers) < len(slips):
+        numbers.add(new_own_mark()[:NUMBER_LENGTH])
+    lines = map(" ".join, zip(numbers, slips))
+    options = len(public[""].names)
     points = [*tellers.values()]
-    return {line: block_of(line, len(poll.names), mark, points) for line in lines}
+    return {line: block_of(line, options, public.mark, points) for line in lines}
 
 
 def first_list(title: str, mark: str, tellers: Mapping[str, str], blocks: Sequence[str]) -> bytes:
     head = f"debvote urn 1 {mark} 0 {len(blocks)} {'0' * 64}"
     names = (f"teller {name} {point}" for name, point in tellers.items())
-    lines = (head, f"title {title}", *names, *sorted(blocks))
-    return "".join(f"{line}\n" for line in lines).encode()
+    return text_file([head, f"title {title}", *names, *sorted(blocks)])
 
 
 def voted_file(counting: Mapping[str, str]) -> bytes:
     """Who has voted, and in which way, from the check-off."""
     ways = {BY_CLICK: "click", ON_PAPER: PAPER}
-    return "".join(sorted(f"{name} {ways[ranks]}\n" for name, ranks in counting.items())).encode()
+    return text_file(sorted(f"{name} {ways[ranks]}" for name, ranks in counting.items()))
 
 
 # ---- what the book has of the lists
-def kept_lists(book: Book, history: History) -> list[bytes]:
+def kept_lists(book: Book, history: History) -> dict[str, bytes]:
     """The lists since the last close, from the first one on, as far as they were handed on."""
-    acts = [history.closes[-1], *history.handed_on]
-    return [
-        queries.sealed(book, f"{URN}/list-{step}.txt", act.number) for step, act in enumerate(acts)
-    ]
+    names = [f"list-{step}.txt" for step in range(len(history.handed_on) + 1)]
+    return {name: queries.sealed(book, f"{URN}/{name}") for name in names}
 
 
-def are_all_opened(history: History) -> bool:
-    return len(history.handed_on) == len(history.tellers)
-
-
-def last_ballots(book: Book, history: History, places: Sequence[str]) -> dict[str, tuple[str, str]]:
+def last_ballots(election: Election, history: History) -> dict[str, list[str]]:
     """Number and ranks of each ballot of the last list, by the places of the public roll."""
     from debvote_tools.call.lists import read_list
 
-    last = read_list("the last list", kept_lists(book, history)[-1])
-    return {
-        place: (line[:NUMBER_LENGTH], line[NUMBER_LENGTH + 1 :])
-        for place, line in zip(places, last.ballots)
-    }
+    last = read_list(*kept_lists(election.book, history).popitem())
+    return dict(zip(election.decided.roll, (line.split(" ") for line in last.ballots)))
 
 
 def demand_openable(history: History) -> None:
@@ -204,8 +190,3 @@ def demand_openable(history: History) -> None:
     if history.handed_on:
         words = "the tellers have opened the ballots, and a second opening would show whose differ"
         raise Fault(None, words, "hold the vote anew, with new keys")
-
-
-def program_files() -> dict[str, bytes]:
-    """What lies beside call and result, by which everybody can check the lists."""
-    return {"lists.py": resources("debvote_tools.call", "lists.py").encode()}

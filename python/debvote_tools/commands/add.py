@@ -28,7 +28,8 @@ from debvote_tools.inbox import entering
 from debvote_tools.inbox.given_files import GivenFile, read_files
 from debvote_tools.inbox.lines import MARK, Line, lines_in
 from debvote_tools.inbox.option_names import OptionNames
-from debvote_tools.inbox.vote import CheckedLine, Vote, replies_to, summary
+from debvote_tools.inbox.vote import CheckedLine, Vote, replies_to
+from debvote_tools.inbox.vote_words import cure_by_reason, report_of_lines, right_line, summary
 from debvote_tools.outbox.steps import tell_next
 from debvote_tools.text.ballots import part_of
 from debvote_tools.text.language import marked
@@ -59,7 +60,8 @@ class Arguments(entering.Arguments):
         "With letters: enter the ballots without asking; with lines: ask of none that was late"
     )
     force: bool = flag(
-        "Add them although most lines are not ballots, they look like a table, one is very long, an older or late ballot would replace "
+        "Add them although most lines are not ballots, they look like a table, one is very "
+        "long, an older or late ballot would replace "
         "another one, or (then with a reason) letters must be signed"
     )
 
@@ -235,7 +237,7 @@ def lines_of_files(vote: Vote, files: Sequence[GivenFile]) -> list[FileLines]:
     stop_at(Fault(file.name, reason, "write one ballot on each line") for file in empty)
     checked = vote.checked_lines([line for lines in lists for line in lines if not line.is_empty])
     no_form = [line for line in checked if not line.can_be_entered][:MAX_REFUSED]
-    cure = f"write it as `{vote.right_line}`, or take it out"
+    cure = f"write it as `{right_line(vote)}`, or take it out"
     stop_at(Fault(line.original.where, vote.why_not_entered(line), cure) for line in no_form)
     by_file = grouped((line.original.file_name, line) for line in checked)
     return [
@@ -370,7 +372,7 @@ def faults_of_lines(vote: Vote, new: NewLines, arguments: Arguments) -> Iterator
     for file in with_new_lines:
         if file.is_table:
             yield Fault(
-                file.name, TABLE, f"{vote.cure_by_reason('the file', file.lines)}, or {FORCE}"
+                file.name, TABLE, f"{cure_by_reason(vote, 'the file', file.lines)}, or {FORCE}"
             )
     no_tables = [file for file in with_new_lines if not file.is_table]
     yield from under_other_names(vote, no_tables)
@@ -380,7 +382,9 @@ def faults_of_lines(vote: Vote, new: NewLines, arguments: Arguments) -> Iterator
             older, newer = pair
             yield Fault(
                 file.name,
-                f"the ballot of {older.ballot.elector} in line {older.original.number} is older than that in line {newer.original.number}, which came before, and would replace it",
+                f"the ballot of {older.ballot.elector} in line {older.original.number} is older "
+                f"than that in line {newer.original.number}, which came before, and would "
+                "replace it",
                 f"take the older ballot out, or {FORCE}",
             )
 
@@ -411,7 +415,8 @@ def under_other_names(vote: Vote, files: Sequence[FileLines]) -> Iterator[Fault]
                 place = f"line {line.original.number}"
                 yield Fault(
                     file.name,
-                    f"{place} names options of the poll in another order than the poll has them: the ranks below it may stand in that order",
+                    f"{place} names options of the poll in another order than the poll has "
+                    "them: the ranks below it may stand in that order",
                     f"if they do, put them into the order of the poll, and take {place} out; if they do not, {FORCE}",
                 )
                 break
@@ -465,7 +470,7 @@ def cure_of(vote: Vote, file: FileLines) -> str:
     head = file.file.data.removeprefix(MARK).lstrip().partition(b"\n")[0].decode("utf-8", "replace")
     if MEMBERS_HEADS <= {cell.strip(' \t\r"').casefold() for cell in re.split("[,;\t]", head)}:
         return "it looks like the list of members: name the file of ballots"
-    return vote.cure_by_reason("the file", file.lines)
+    return cure_by_reason(vote, "the file", file.lines)
 
 
 # ---- what is printed
@@ -479,7 +484,7 @@ def report_of_files(
             yield f"{file.name}: its lines end as Windows ends them"
         yield from (f"{line.where}: it is empty, and was left out" for line in file.empty)
         yield from repeated_words(file)
-    yield from vote.report_of_lines(new.lines, numbers, replies)
+    yield from report_of_lines(vote, new.lines, numbers, replies)
 
 
 def repeated_words(file: ComparedLines) -> Iterator[str]:

@@ -6,7 +6,7 @@ import os
 import shlex
 import shutil
 import time
-from collections.abc import Iterable, Iterator
+from collections.abc import Iterator
 
 from debvote_tools import VERSION
 from debvote_tools.book import queries
@@ -19,10 +19,9 @@ from debvote_tools.call.secret import aliased, blank_slips, demand_no_code
 from debvote_tools.call.teller_page import teller_checksum, teller_file
 from debvote_tools.call.tellers import (
     FEWEST,
-    check_off,
     demand_new_points,
     fingerprints,
-    public_poll,
+    for_tellers,
     tellers_in,
 )
 from debvote_tools.cli.arguments import Acting, flag, given, option
@@ -91,11 +90,13 @@ class Arguments(Acting):
     )
     names: bool = flag("Say in the call that real names will be published with the result")
     box: bool = flag(
-        "Let electors vote by a click on the page, which seals each ballot: call/vote.php keeps ballots on the web host until add --box"
+        "Let electors vote by a click on the page, which seals each ballot: call/vote.php keeps "
+        "ballots on the web host until add --box"
     )
     slips: str | None = option(
         None,
-        "In a secret vote with a web box: whether slips with codes will be handed out, as the page says (default: the command asks)",
+        "In a secret vote with a web box: whether slips with codes will be handed out, as the "
+        "page says (default: the command asks)",
         choices=("yes", "no"),
     )
     keyring: str | None = option(
@@ -122,18 +123,16 @@ def call(election: Election, arguments: Arguments) -> None:
         call_first(election, arguments)
     else:
         call_again(election, arguments)
-    note_tellers(election, election.history().tellers.values())
+    note_tellers(election)
     make_folders(election)
     tell(*call_in_words(election, current_call(election)))
     tell_next(election)
 
 
-def note_tellers(election: Election, points: Iterable[str]) -> None:
-    """Notes on this machine which keys of tellers the call of this book has."""
-    note = election.book.note()
-    own = election.book.acts()[0].digest
-    if {*points} != {point for point, book in note.points().items() if book == own}:
-        note.put_points(own, points)
+def note_tellers(election: Election) -> None:
+    """Notes on this machine which keys of tellers the call of this book has, if there is one."""
+    points = election.history().tellers.values()
+    election.book.note().put_points(election.book.acts()[0].digest, points)
 
 
 # ---- the acts
@@ -207,10 +206,7 @@ def sealing(
     electors = queries.electors(election.book)
     questions = draft.questions
     public = aliased(questions, electors) if questions.is_secret else questions
-    if "tellers" in detail:
-        public = public_poll(questions)
-        questions = check_off(questions)
-    sealed = Sealed(public, questions)
+    sealed = for_tellers(questions) if "tellers" in detail else Sealed(public, questions)
     files = sealed_by(election, arguments, detail, draft.letter_text, sealed)
     if keyring is not None:
         files[KEYRING] = keyring
@@ -219,9 +215,8 @@ def sealing(
     named = [] if detail["codes_on_roll"] else electors
     marked = [elector._replace(mark=new_own_mark()) for elector in named]
     if arguments.box:
-        files |= box_files(
-            election.book, public.mark, {elector.name: elector.mark for elector in marked}
-        )
+        marks = {elector.name: elector.mark for elector in marked}
+        files |= box_files(election.book, sealed.public.mark, marks)
     return Change("call", detail, electors=marked, sealed=files)
 
 
@@ -302,7 +297,7 @@ def take_back(election: Election) -> None:
     void_codes = len(lapsed) if has_codes else 0
     detail: Detail = {"call": call_act.number, "codes": void_codes}
     Change("take back", detail, electors=lapsed).do(book, history.last.number)
-    note_tellers(election, ())
+    note_tellers(election)
     remove_void(election, election.history())
     tell(say("Took the call back. If anybody has seen it, tell them that it is void."))
     if history.announced("box"):
@@ -517,22 +512,7 @@ def call_in_words(election: Election, data: CallData) -> Iterator[str]:
     folder = election.path(CALL)
     is_several = data.questions.is_several
     yield say("Made the folder {folder} with the page index.html and the letter call.txt.", folder)
-    slips = election.path(PRIVATE) / SLIPS
-    if data.has_codes_on_roll:
-        yield "Codes are on the roll: the call has the checksum of the poll, but no poll.toml."
-        yield f"Print {slips}, cut the slips out, and let each elector draw one."
-    elif data.tellers:
-        page = teller_file(data.language)
-        yield f"Page and letter seal to, and name: {fingerprints(data.tellers)}. Each teller tells members the own fingerprint by another way."
-        yield f"Tellers look at the page, and open, with {page} of version {VERSION}, SHA-256 {teller_checksum(data.language)}, which they get elsewhere than from you."
-        yield f"Print {slips} for those who vote on paper: nothing on a slip tells whose it is."
-    elif data.has_aliases:
-        yield "The vote is secret: the poll of the call has aliases, and the folder has no names of electors."
-        yield (
-            f"Print {slips}, cut the slips out, and give each elector their own."
-            if data.has_slips
-            else "No slips: nobody can find their ballot in the result."
-        )
+    yield from names_in_words(election, data)
     whose = say("Checksum of the polls") if is_several else say("Checksum of the poll")
     yield f"{whose}: {data.questions.checksum}"
     yield f"{say('Mark of the poll, at the end of each subject')}: {data.mark}"
@@ -554,14 +534,47 @@ def call_in_words(election: Election, data: CallData) -> Iterator[str]:
     )
 
 
+def names_in_words(election: Election, data: CallData) -> Iterator[str]:
+    """What stands in a secret vote in place of names, and what is to be printed."""
+    slips = election.path(PRIVATE) / SLIPS
+    if data.has_codes_on_roll:
+        yield "Codes are on the roll: the call has the checksum of the poll, but no poll.toml."
+        yield f"Print {slips}, cut the slips out, and let each elector draw one."
+    elif data.tellers:
+        page = teller_file(data.language)
+        yield (
+            f"Page and letter seal to, and name: {fingerprints(data.tellers)}. Each teller tells "
+            "members the own fingerprint by another way."
+        )
+        yield (
+            f"Tellers look at the page, and open, with {page} of version {VERSION}, SHA-256 "
+            f"{teller_checksum(data.language)}, which they get elsewhere than from you."
+        )
+        yield f"Print {slips} for those who vote on paper: nothing on a slip tells whose it is."
+    elif data.has_aliases:
+        yield "The vote is secret: the poll of the call has aliases, and the folder has no names of electors."
+        yield (
+            f"Print {slips}, cut the slips out, and give each elector their own."
+            if data.has_slips
+            else "No slips: nobody can find their ballot in the result."
+        )
+
+
 def box_in_words(election: Election, data: CallData) -> Iterator[str]:
     """Notes on the page of before, to which letters have links until that of now was asked, and on
     asking.
     """
     asked_at = last_box(election.history()).get("at")
     if asked_at not in (None, data.at):
-        yield f"Note: the page at {asked_at} still takes ballots, which add --box fetches no more: remove its {SCRIPT}, then fetch its file {records_file(data.box_key)} by FTP, and add it: {election.command('add', 'FILE')}."
-    yield f"Make a copy of the book now: {election.command('backup', 'FILE')}. Without the book nobody can open what lies on the web host; {WHO_HAS_IT}."
+        yield (
+            f"Note: the page at {asked_at} still takes ballots, which add --box fetches no more: "
+            f"remove its {SCRIPT}, then fetch its file {records_file(data.box_key)} by FTP, and "
+            f"add it: {election.command('add', 'FILE')}."
+        )
+    yield (
+        f"Make a copy of the book now: {election.command('backup', 'FILE')}. Without the book "
+        f"nobody can open what lies on the web host; {WHO_HAS_IT}."
+    )
     yield f"To ask for the ballots of the page each hour, by cron: {cron_line(election)}"
 
 

@@ -3,7 +3,6 @@
 import dataclasses
 import itertools
 import operator
-import os
 import pathlib
 import re
 from collections.abc import Iterator, Mapping, Sequence
@@ -28,7 +27,7 @@ from debvote_tools.call.draft import (
     title_in,
 )
 from debvote_tools.call.members import AGAIN, Roll, label_of, roll_of
-from debvote_tools.call.tellers import check_off, fingerprints, public_poll, tellers_in
+from debvote_tools.call.tellers import fingerprints, for_tellers, tellers_in
 from debvote_tools.cli.arguments import Options, option
 from debvote_tools.cli.console import count_of, listed, quorum_words, say, shown_text, tell, wrapped
 from debvote_tools.cli.faults import Fault, bad_words, kept_in, stop_at
@@ -166,7 +165,7 @@ def checked_by_debvote(
     stop_at(faults_of_ballots(election, questions, letter_text))
     electors = queries.electors(election.book)
     has_codes = election.history().has_codes_on_roll or all(elector.code for elector in electors)
-    needs_codes = questions.is_secret and not os.path.lexists(election.path(TELLERS))
+    needs_codes = questions.is_secret and not election.path(TELLERS).exists()
     return Checked(questions, quorums, letter_text, needs_codes and not has_codes)
 
 
@@ -231,7 +230,7 @@ def previewed(election: Election, draft: Checked, has_tellers: bool) -> Sealed:
 
     questions = draft.questions
     if has_tellers:
-        return Sealed(public_poll(questions), check_off(questions))
+        return for_tellers(questions)
     has_codes = not (draft.lacks_codes or election.history().has_codes_on_roll)
     if questions.is_secret and has_codes:
         return Sealed(aliased(questions, queries.electors(election.book)), questions)
@@ -303,7 +302,10 @@ def notes_on(election: Election, draft: Checked) -> Iterator[str]:
     """What may be meant otherwise, in the secretary's own words and in names."""
     lines = draft.letter_text.splitlines()
     if long := [str(number) for number, line in enumerate(lines, 1) if len(line) > LONGEST_LINE]:
-        yield f"Note: these lines of {LETTER_TEXT} have more than {LONGEST_LINE} characters, so mail programs may break them: {', '.join(long)}"
+        yield (
+            f"Note: these lines of {LETTER_TEXT} have more than {LONGEST_LINE} characters, so "
+            f"mail programs may break them: {', '.join(long)}"
+        )
     if like := like_answers(draft.questions, draft.letter_text, election.language):
         yield "Note: these look like answers, and letters that quote one of them wait:"
         yield from (f"  {place}: {shown_text(text)}" for place, text in like)

@@ -8,6 +8,7 @@ from debvote_tools.book import queries
 from debvote_tools.book.book import Detail, DoneAct
 from debvote_tools.book.change import Change, carried_out, terminal_prompt
 from debvote_tools.call.secret import seal_line, sealed_checksum
+from debvote_tools.call.tellers import VOTED
 from debvote_tools.cli.arguments import Acting, demand_reason, flag, has_reason, option
 from debvote_tools.cli.console import act_time, count_of, count_of_lines, say, say_time, tell
 from debvote_tools.cli.faults import Fault, stop_at
@@ -24,7 +25,8 @@ from debvote_tools.inbox.stopping import (
 )
 from debvote_tools.outbox.steps import Step, tell_next, words_of
 from debvote_tools.result.file_names import CLOSED
-from debvote_tools.result.publication import Kept, closing_letter, kept_of
+from debvote_tools.result.kept_questions import KeptQuestion, kept_questions
+from debvote_tools.result.publication import closing_letter
 from debvote_tools.text import times
 from debvote_tools.text.language import SPOKEN, marked
 
@@ -44,7 +46,8 @@ class Arguments(Acting):
     )
     paper: str | None = option(
         "FILE",
-        "In a vote with tellers: the slips on paper, on each line the ranks of one, or - if it is spoilt; as many as are checked off",
+        "In a vote with tellers: the slips on paper, on each line the ranks of one, or - if it "
+        "is spoilt; as many as are checked off",
     )
     yes: bool = flag("Close without asking whether all ballots are in")
 
@@ -58,8 +61,6 @@ def close(election: Election, arguments: Arguments) -> None:
         carried_out(election.book, lambda: what_is_closed(election, arguments))
     history = election.history()
     act = history.closes[-1]
-    if history.tellers:
-        urn.write_sealed(election, act.number)
     path = election.path(LETTERS) / CLOSED
     written = write_made(path.parent, {CLOSED: closing_letter(election, history)}, OWN)
     fixed = fixed_by(act)
@@ -79,7 +80,11 @@ def close(election: Election, arguments: Arguments) -> None:
     tell(*checksums_in_words(fixed))
     tell(say("Send {file} to all electors before you count anything.", path))
     if history.tellers:
-        tell(*urn.voted_words(election, history))
+        urn.write_sealed(election, history)
+        tell(
+            f"Checksum of {VOTED}: {act.detail['voted']}",
+            f"Give {election.path(VOTED)} to the tellers and the meeting alone.",
+        )
     if history.announced("to"):
         # what writes letters takes a while to be imported
         from debvote_tools.commands.letters import write_ready
@@ -195,10 +200,13 @@ def what_is_closed(election: Election, arguments: Arguments) -> Closing:
     if history.until is not None and is_early and not arguments.early:
         faults = [too_early(election, history.until, now)]
     stop_at([*faults, *faults_now(election, arguments, stopping.values())])
-    kept = kept_of(election, history, election.questions)
-    sealed = urn.filled(election, history, arguments.paper) if history.tellers else {}
-    fixed = {label: what_is_fixed(one, sealed) for label, one in kept.items()}
-    detail = detail_of(election, fixed, pending, is_early=is_early) | urn.detail_of(sealed)
+    kept = kept_questions(election, history, election.questions)
+    fixed = {label: what_is_fixed(one) for label, one in kept.items()}
+    sealed = dict[str, bytes]()
+    in_urn: Detail = {}
+    if history.tellers:
+        sealed, fixed[""], in_urn = urn.filled(election, history, arguments.paper)
+    detail = detail_of(election, fixed, pending, is_early=is_early) | in_urn
     if stopping:
         detail["because"] = demand_reason(arguments.because, "--force")
     shown = [*what_came(election, history, fixed, pending), *words_of(election, Step.RECEIPTS)]
@@ -256,9 +264,7 @@ def detail_of(
     return detail
 
 
-def what_is_fixed(kept: Kept, in_urn: Mapping[str, bytes]) -> Fixed:
-    """What the close fixes of a question; with tellers what is in the urn."""
-    if in_urn:
-        return urn.fixed_by(in_urn)
+def what_is_fixed(kept: KeptQuestion) -> Fixed:
+    """What the close fixes of a question."""
     seal = seal_line() if kept.poll.secret else ""
     return Fixed(kept.lines, sealed_checksum(seal, kept.public), seal)

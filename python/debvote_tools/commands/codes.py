@@ -1,6 +1,5 @@
 """The command `codes`, and the folder of slips."""
 
-import os
 from collections.abc import Iterator, Sequence
 
 from debvote_tools.book import queries
@@ -33,7 +32,7 @@ class Arguments(Acting):
 def codes(election: Election, arguments: Arguments) -> None:
     """Make a secret code for each elector of a secret vote, before the call."""
     election.demand_right_book(arguments)
-    if election.history().tellers or os.path.lexists(election.path(TELLERS)):
+    if election.history().tellers or election.path(TELLERS).exists():
         words = f"with {TELLERS} electors have numbers that nobody else knows, and no codes"
         raise Fault(None, words, f"run {election.command('call')}")
     if election.history().call is None:

@@ -12,7 +12,7 @@ from debvote_tools.inbox.stopping import Pending, pending_letters, what_stops
 from debvote_tools.outbox.steps import Step, next_line, what_next
 from debvote_tools.poll.questions import Questions
 from debvote_tools.result.casting import CASTING, castings_in, unneeded_words
-from debvote_tools.result.publication import decided_of, demand_countable, sheet_of
+from debvote_tools.result.kept_questions import decided_questions, demand_countable, sheet_of
 from debvote_tools.sheet import Sheet
 
 
@@ -47,7 +47,7 @@ def count(election: Election, arguments: Arguments) -> int:
         stop_at(what_stops(election, history, "count", pending).values())
     sheets = {
         label: sheet_of(election, kept, castings.get(label))
-        for label, kept in decided_of(election, history, labels).items()
+        for label, kept in decided_questions(election, history, labels).items()
     }
     tell_sheets(questions, sheets, arguments)
     tell_aside(*unneeded_words(castings, sheets))

@@ -29,7 +29,17 @@ from debvote_tools.election import Election, History
 from debvote_tools.files import BALLOTS_LIMIT
 from debvote_tools.inbox import entering
 from debvote_tools.inbox.lines import Line, Names, lines_in
-from debvote_tools.inbox.vote import CheckedLine, Vote, change_words, summary
+from debvote_tools.inbox.vote import CheckedLine, Vote
+from debvote_tools.inbox.vote_words import (
+    change_words,
+    cure_by_reason,
+    line_in_words,
+    report_of_lines,
+    right_line,
+    right_words,
+    summary,
+    with_answers,
+)
 from debvote_tools.outbox.steps import tell_next
 from debvote_tools.poll.plain_names import alike
 from debvote_tools.text.ballots import Ballot
@@ -152,7 +162,7 @@ class Desk:
         """Stops at ranks below the head of a table, before they are cast."""
         came = [*self.above, *lines]
         if self.vote.are_table(came):
-            cure = self.vote.cure_by_reason("what came", came)
+            cure = cure_by_reason(self.vote, "what came", came)
             raise Fault("desk", TABLE, cure, Status.BAD_BALLOTS)
         # no other ballot is a head, nor a line of a table; and of what was above the first it was
         # asked then
@@ -209,7 +219,7 @@ class Casting(entering.Entry):
         if not (is_told or self.is_late):
             yield from self.desk.notes
         if not self.prompt:
-            yield from self.vote.report_of_lines(self.lines, numbers, replies)
+            yield from report_of_lines(self.vote, self.lines, numbers, replies)
             return
         # what was asked about was shown in words
         for number, reply, line in zip(numbers, replies, self.lines):
@@ -279,7 +289,8 @@ def desk(election: Election, arguments: Arguments) -> None:
     tell(*desk.notes)
     if desk.vote.is_signed:
         tell(
-            "Note: in this vote letters must be signed, and a desk checks no signature: enter only ballots on paper or by word of mouth."
+            "Note: in this vote letters must be signed, and a desk checks no signature: enter "
+            "only ballots on paper or by word of mouth."
         )
     try:
         desk.ask_if_reopened(history)
@@ -360,9 +371,9 @@ def at_terminal(desk: Desk) -> None:
         )
     who = say("the code") if vote.has_codes else say("the elector")
     tell(
-        f"{vote.right_words()} {say('q ends.')}"
+        f"{right_words(vote)} {say('q ends.')}"
         if vote.has_tellers
-        else f"{say('Type a ballot as {line}', vote.right_line)} ({who}, {order}); {say('q ends.')}"
+        else f"{say('Type a ballot as {line}', right_line(vote))} ({who}, {order}); {say('q ends.')}"
     )
     if words := desk.answer_in_letters():
         tell(f"{say('In place of the ranks of a motion')}: {', '.join(words)}.")
@@ -429,7 +440,10 @@ def why_no_label(desk: Desk, line: Line, name: str, electors: Sequence[Elector])
     ]
     if not longer:
         return ""
-    return f"the {label} behind `{shown_text(name)}` may be a label, or belong to the name of {ENGLISH.joined(longer)}: type the name on the roll, with a colon behind it"
+    return (
+        f"the {label} behind `{shown_text(name)}` may be a label, or belong to the name of "
+        f"{ENGLISH.joined(longer)}: type the name on the roll, with a colon behind it"
+    )
 
 
 def chosen_of(electors: Sequence[Elector], name: str) -> Elector | None:
@@ -468,9 +482,9 @@ def question(
         for line in lines:
             if finding := line.lasting:
                 refused = f"{shown_line(line.as_entered)}: {finding.word}: {finding.hint}"
-                shown += [f"{say('It would be refused')}: {refused}", desk.vote.right_words()]
+                shown += [f"{say('It would be refused')}: {refused}", right_words(desk.vote)]
             else:
-                shown.append(desk.vote.in_words(line))
+                shown.append(line_in_words(desk.vote, line))
     ballots = [line for line in lines if line.is_ballot]
     if ballots and is_late:
         shown.append(say("It is late, and will not count."))
@@ -488,8 +502,8 @@ def earlier_words(vote: Vote, ballot: Ballot, elector: int) -> Iterator[str]:
     earlier = Ballot(f"{name} {queries.what_counts(vote.book, {elector}).get(name, '')}")
     stays = earlier.without(ballot.ranks)
     if replaced := earlier.without(stays.ranks).answers:
-        yield vote.with_answers(say("{name} has a ballot, which will be replaced", name), replaced)
+        yield with_answers(vote, say("{name} has a ballot, which will be replaced", name), replaced)
     if stays.ranks:
         others = SPOKEN.get().joined(sorted(stays.ranks))
         words = say("The earlier answers of {name} to {questions} stay", name, others)
-        yield vote.with_answers(words, stays.answers)
+        yield with_answers(vote, words, stays.answers)

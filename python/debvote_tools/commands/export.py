@@ -5,7 +5,7 @@ import pathlib
 import re
 
 from debvote_tools.book import queries
-from debvote_tools.call.tellers import are_all_opened, last_ballots
+from debvote_tools.call.tellers import last_ballots, text_file
 from debvote_tools.cli.arguments import Options, flag, positional
 from debvote_tools.cli.console import demand_yes, say, tell
 from debvote_tools.cli.faults import bad_words
@@ -74,10 +74,10 @@ def exported(election: Election) -> dict[str, bytes]:
 def opened_ballots(election: Election) -> bytes:
     """The ballots that the tellers have opened; none before the last list."""
     history = election.history()
-    if not (history.is_closed and are_all_opened(history)):
+    if not history.are_all_opened:
         return b""
-    ballots = last_ballots(election.book, history, election.decided.roll).items()
-    return ballot_file(f"{place} {ranks}".encode() for place, (_, ranks) in ballots)
+    ballots = last_ballots(election, history).items()
+    return text_file(f"{place} {ranks}" for place, (_, ranks) in ballots)
 
 
 def demand_new(election: Election, target: pathlib.Path, what: str) -> None:

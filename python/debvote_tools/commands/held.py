@@ -40,10 +40,11 @@ from debvote_tools.inbox.letter_words import name_of, quoted_words, who_and_when
 from debvote_tools.inbox.lines import Line, lines_in
 from debvote_tools.outbox.steps import Step, next_line, what_next
 from debvote_tools.inbox.reasons import for_secretary
-from debvote_tools.inbox.rules import LetterCase, LetterOutcome, why_other_mark
+from debvote_tools.inbox.rules import LetterCase, Ruling, why_other_mark
 from debvote_tools.inbox.stopping import other_votes_words
 from debvote_tools.inbox.taking import LetterEntry, enter_words, envelope_of
 from debvote_tools.inbox.vote import Vote
+from debvote_tools.inbox.vote_words import ballot_in_words, right_words
 from debvote_tools.outbox.words import Composer
 from debvote_tools.text.ballots import Ballot
 from debvote_tools.text.language import ENGLISH, marked
@@ -80,7 +81,8 @@ class Arguments(Acting):
     wait: bool = flag("Have the letters wait again")
     force: list[str] | None = option(
         "WHY",
-        "Enter the ballot of one letter: not-tied if nothing ties it to its elector, or it has the mark of another vote or call; voted-since if "
+        "Enter the ballot of one letter: not-tied if nothing ties it to its elector, or it has "
+        "the mark of another vote or call; voted-since if "
         "the elector has or may have voted since",
         action="append",
         choices=(NOT_TIED, VOTED_SINCE),
@@ -114,13 +116,13 @@ def held(election: Election, arguments: Arguments) -> None:
     if not named:
         tell(*letter_words.table(pending))
         tell(*aside_words(letters))
-    others = (letter for letter in letters if letter.outcome is LetterOutcome.OTHER_VOTE)
+    others = (letter for letter in letters if letter.ruling is Ruling.OTHER_VOTE)
     tell(*other_votes_words(letter.other_vote for letter in others))
     tell(*next_words(election, pending, () if is_act else named))
 
 
 def aside_words(letters: Sequence[LetterCase]) -> Iterator[str]:
-    aside = (letter for letter in letters if letter.outcome is LetterOutcome.SET_ASIDE)
+    aside = (letter for letter in letters if letter.ruling is Ruling.SET_ASIDE)
     if numbers := ", ".join(str(letter.number) for letter in aside):
         yield f"Set aside: {numbers}"
 
@@ -136,7 +138,10 @@ def next_words(
         return
     waiting = [letter for letter in shown if letter.is_pending]
     command = election.command("held", str((waiting or pending)[0].number))
-    words = f"{command} {'with' if waiting else 'shows one;'} --enter enters its ballot, --as LINE the ballot that you type, --set-aside sets it aside"
+    words = (
+        f"{command} {'with' if waiting else 'shows one;'} --enter enters its ballot, --as LINE "
+        "the ballot that you type, --set-aside sets it aside"
+    )
     yield f"{wait_words(len(pending))}."
     # what has come too late may wait
     is_next = due[0].step is Step.HELD
@@ -168,10 +173,13 @@ def left_words(vote: Vote, letter: LetterCase) -> Iterator[str]:
     """
     electors = {*letter.sharing, *(line.ballot.elector for line in letter.proposals)}
     entered = {elector for elector, _ in letter.entered_answers}
-    if len(electors) > 1 and letter.outcome is LetterOutcome.ENTERED:
+    if len(electors) > 1 and letter.ruling is Ruling.ENTERED:
         for elector in sorted(electors - entered):
             command = vote.election.command("held", str(letter.number), "--as")
-            yield f"{elector} has no ballot of {name_of(letter)}; {command} LINE{'' if letter.is_tied(elector) else f' --force {NOT_TIED}'} enters one"
+            yield (
+                f"{elector} has no ballot of {name_of(letter)}; {command} "
+                f"LINE{'' if letter.is_tied(elector) else f' --force {NOT_TIED}'} enters one"
+            )
 
 
 def all_letters(vote: Vote) -> list[LetterCase]:
@@ -213,7 +221,7 @@ def what_is_decided(vote: Vote, arguments: Arguments) -> Change:
         ]
     if not chosen:
         raise Fault("held", "none of these waits", "held lists the letters that wait")
-    if entered := [letter for letter in chosen if letter.outcome is LetterOutcome.ENTERED]:
+    if entered := [letter for letter in chosen if letter.ruling is Ruling.ENTERED]:
         raise Fault(
             name_of(entered[0]),
             "its ballot was entered",
@@ -336,7 +344,7 @@ def shown(vote: Vote, one: Chosen) -> Iterator[str]:
     if is_whole:
         yield from letter_words.whole(letter, ours(vote, letter))
     for line in one.lines:
-        said = f"{vote.ballot_in_words(line.ballot)}{quoted_words(letter, line)}"
+        said = f"{ballot_in_words(vote, line.ballot)}{quoted_words(letter, line)}"
         elector = line.ballot.elector
         yield said if is_whole else f"{who_and_when(letter)}: {said}\n  {why(letter, elector)}"
 
@@ -406,7 +414,7 @@ def ballot_in_typed(vote: Vote, text: str) -> Ballot:
     raise Fault(
         "--as",
         f"`{shown_line(text.encode('utf-8', 'backslashreplace'))}` is no ballot of this poll: {answer}",
-        vote.right_words(),
+        right_words(vote),
     )
 
 
@@ -445,12 +453,12 @@ def why_not_now(vote: Vote, history: History, chosen: Sequence[Chosen]) -> Itera
             if any(one.is_late for one in again):
                 words = f"{words}, and is late"
             yield Fault(name, words, what_then(vote, letter, one.lines, again))
-        elif letter.outcome is LetterOutcome.PASSED_OVER and letter.reason:
+        elif letter.ruling is Ruling.PASSED_OVER and letter.reason:
             yield Fault(name, for_secretary(letter.reason), "leave it out")
         elif vote.has_tellers and not letter.read.block and any(line.number for line in one.lines):
             cure = f"of who voted on paper type NAME paper: {vote.election.command('held', str(letter.number), '--as')} LINE"
             yield Fault(name, "the page alone seals ballots, and this is none", cure)
-        elif letter.outcome is LetterOutcome.COPY:
+        elif letter.ruling is Ruling.COPY:
             yield Fault(
                 name,
                 "it is a copy of another letter",

@@ -64,7 +64,8 @@ class Arguments(Acting):
     send: bool = flag("Send the letters to a mail server; if a run was cut off, go on from there")
     server: str | None = option(
         "HOST[:PORT]",
-        "With --send: the mail server (default: that of the last letters); the connection is encrypted unless it is on this computer",
+        "With --send: the mail server (default: that of the last letters); the connection is "
+        "encrypted unless it is on this computer",
     )
     user: str | None = option(
         "USER",
@@ -271,7 +272,10 @@ def notes_on(due: LettersDue, by_place: ByPlace) -> Iterator[str]:
                     due.election.command("call"),
                 )
     if due.in_no_receipt:
-        yield f"No receipt is about these letters that wait, since no elector alone has the sender's address: {listed(list(map(str, due.in_no_receipt)), MOST)}"
+        yield (
+            "No receipt is about these letters that wait, since no elector alone has the "
+            f"sender's address: {listed(list(map(str, due.in_no_receipt)), MOST)}"
+        )
     if due.letters_pending:
         yield until_looked_at(due.letters_pending, due.election.command("held"))
 

@@ -61,7 +61,8 @@ def new(election: Election, arguments: Arguments) -> None:
         make(folder, arguments.language, polls)
         tell(
             say(
-                "Made the folder {folder} with {files} and {members}. Keep it on a disk of this computer, not in a shared or synced folder.",
+                "Made the folder {folder} with {files} and {members}. Keep it on a disk of this "
+                "computer, not in a shared or synced folder.",
                 folder,
                 files,
                 MEMBERS_FILE,

@@ -46,6 +46,7 @@ from debvote_tools.result.casting import (
 from debvote_tools.result.data import outcome_as_data
 from debvote_tools.result.facts import Outcome, PublishedWords, QuestionFacts, VoteFacts
 from debvote_tools.result.file_names import BALLOTS, CHECKSUMS, PAGE, POLL
+from debvote_tools.result.kept_questions import demand_countable
 from debvote_tools.result.places import is_free, is_publication, other_place
 from debvote_tools.text import times
 from debvote_tools.text.language import LANGUAGES
@@ -103,7 +104,7 @@ def publish(election: Election, arguments: Arguments) -> int:
     """Make the folder of the result for a web site; without options, make the last one again."""
     election.demand_right_book(arguments)
     history = election.history()
-    publication.demand_countable(election, history)
+    demand_countable(election, history)
     target = pathlib.Path(arguments.target or election.path(RESULT))
     given = published_words(arguments, election.decided, election.called(history))
     demand_place(election, target, history)

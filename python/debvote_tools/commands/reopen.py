@@ -14,7 +14,7 @@ from debvote_tools.grouping import grouped
 from debvote_tools.inbox.taking import MOST_NAMED
 from debvote_tools.inbox.vote import Vote
 from debvote_tools.outbox.steps import tell_next
-from debvote_tools.result.publication import void_letter
+from debvote_tools.result.publication import closing_letter
 
 # the letter to all about a list that nobody opens
 VOID = "void.txt"
@@ -48,7 +48,7 @@ def reopen(election: Election, arguments: Arguments) -> None:
         # what writes letters takes a while to be imported
         from debvote_tools.commands.letters import write_ready
 
-        write_made(election.path(LETTERS), {VOID: void_letter(election, history)}, OWN)
+        write_made(election.path(LETTERS), {VOID: closing_letter(election, history, VOID)}, OWN)
         tell(
             f"Send {election.path(LETTERS)}/{VOID} to all electors now: nobody may open the list of before.",
             *write_ready(election, "void"),

@@ -19,7 +19,8 @@ from debvote_tools.cli.faults import Fault
 from debvote_tools.election import Election, History
 from debvote_tools.inbox import letter_words
 from debvote_tools.inbox.fates import Fate, fates_of
-from debvote_tools.inbox.vote import IS_CODE, Vote, envelope_words
+from debvote_tools.inbox.vote import Vote
+from debvote_tools.inbox.vote_words import IS_CODE, envelope_words, with_answers
 from debvote_tools.poll.codes import has_code
 
 
@@ -49,7 +50,7 @@ def show(election: Election, arguments: Arguments) -> None:
         words = say("The current ballot")
         if current and vote.is_several:
             words += f": {elector.name} {current}"
-        tell(vote.with_answers(words, current) if current else f"{words}: {say('none')}")
+        tell(with_answers(vote, words, current) if current else f"{words}: {say('none')}")
         letters = outgoing.outgoing_letters(election.book, elector=elector.number)
         tell(*map(outgoing_words, sorted(letters, key=lambda letter: letter.time)))
 
@@ -107,9 +108,12 @@ def fate_words(vote: Vote, history: History, fate: Fate, came: Sequence[Envelope
             marks.append(f"{struck}: {because}" if because else struck)
         marked = f" ({'; '.join(marks)})" if marks else ""
         at_desk = f", {say('at {desk}', shown_text(fate.desk))}" if fate.desk else ""
-        words = f"{envelope_words([envelope.number])}, {act_time(envelope.time)}{at_desk}{letter_words.sent_words(fate.came_by)}{marked}"
+        words = (
+            f"{envelope_words([envelope.number])}, "
+            f"{act_time(envelope.time)}{at_desk}{letter_words.sent_words(fate.came_by)}{marked}"
+        )
         if fate.answers:
-            yield vote.with_answers(words, fate.answers, "    ")
+            yield with_answers(vote, words, fate.answers, "    ")
         else:
             yield f"{words}: {refused_line(vote, envelope)}"
 

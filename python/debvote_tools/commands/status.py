@@ -22,11 +22,12 @@ from debvote_tools.cli.console import (
     wrapped,
 )
 from debvote_tools.cli.faults import Fault, stop_at
-from debvote_tools.election import Election, History
+from debvote_tools.election import Election, History, fixed_by
 from debvote_tools.inbox.last_asking import asked_last, asked_words, with_lost_records
 from debvote_tools.inbox.urn import words_before_close
 from debvote_tools.inbox.stopping import Pending, pending_letters, taken_out_words
-from debvote_tools.inbox.vote import Vote, envelope_words
+from debvote_tools.inbox.vote import Vote
+from debvote_tools.inbox.vote_words import envelope_words
 from debvote_tools.outbox.reached import unreached_and_printed
 from debvote_tools.outbox.steps import SAID, in_words, tell_next, what_next
 from debvote_tools.text import times
@@ -88,11 +89,14 @@ def state_of(
     book = election.book
     electors = [elector.name for elector in queries.electors(book)]
     unreached, printed = unreached_and_printed(election, history)
+    numbers = queries.numbers(book)._asdict()
+    if history.tellers and history.is_closed:
+        # what tellers open: no spoilt slip is among it
+        numbers["voters"] = fixed_by(history.closes[-1])[""].lines
     return {
         "stage": history.stage,
         "electors": len(electors),
-        **queries.numbers(book)._asdict(),
-        **voters_in_urn(history),
+        **numbers,
         "late": len(queries.lines(book, "envelope IN late")),
         "struck": len(history.since_call("strike")),
         "taken_back": len(queries.lost(book)),
@@ -125,14 +129,6 @@ def still_refused(book: Book, counting: Mapping[str, str]) -> list[Envelope]:
     ]
 
 
-def voters_in_urn(history: History) -> State:
-    """With tellers, after the close, how many ballots they open: no spoilt slip is among them."""
-    if not (history.tellers and history.is_closed):
-        return {}
-    detail = history.closes[-1].detail
-    return {"voters": detail["clicks"] + detail["slips"]}
-
-
 def questions_in(election: Election, history: History, *, has_late: bool) -> State:
     """The numbers of each of several questions."""
     book = election.book
@@ -156,9 +152,16 @@ def stage_words(election: Election, history: History, state: State) -> Iterator[
     questions = election.questions
     yield f"{say('Title')}: {questions.name}"
     if history.tellers:
-        yield f"The vote is secret, and its ballots are sealed to {', '.join(history.tellers)}. Keep the output of this command to yourself."
+        yield (
+            f"The vote is secret, and its ballots are sealed to {', '.join(history.tellers)}. "
+            "Keep the output of this command to yourself."
+        )
     elif questions.is_secret:
-        yield f"The vote is secret: ballots are published under {'codes' if history.has_codes_on_roll else 'aliases'}. Keep the output of this command to yourself."
+        yield (
+            "The vote is secret: ballots are published under "
+            f"{'codes' if history.has_codes_on_roll else 'aliases'}. Keep the output of this "
+            "command to yourself."
+        )
     if history.until is not None:
         passed = say("that time has passed")
         yield f"{say('End of the vote')}: {say_time(history.until)}{f'; {passed}' if times.now() >= history.until else ''}"

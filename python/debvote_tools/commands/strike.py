@@ -13,7 +13,8 @@ from debvote_tools.election import Election
 from debvote_tools.inbox import letter_words
 from debvote_tools.inbox.judging import letters_now
 from debvote_tools.inbox.lines import name_in
-from debvote_tools.inbox.vote import Vote, envelope_words
+from debvote_tools.inbox.vote import Vote
+from debvote_tools.inbox.vote_words import envelope_words, with_answers
 from debvote_tools.outbox.steps import tell_next
 
 # what can be a code of the roll or half of one, as if it was typed with a gap
@@ -45,7 +46,7 @@ def strike(election: Election, arguments: Arguments) -> None:
         whose = say("that code") if vote.has_codes else elector
         words = say("Another ballot of {name} counts", whose)
         none = say("No ballot of {name} counts", whose)
-        tell(vote.with_answers(words, answers) if answers else none)
+        tell(with_answers(vote, words, answers) if answers else none)
     tell(*letter_words.judged_anew(judged_before, letters_now(vote), change.letters))
     tell(say("A strike cannot be undone: if it was a mistake, enter the line again."))
     tell_next(election)

@@ -13,7 +13,8 @@ from debvote_tools.cli.faults import Fault
 from debvote_tools.election import Election, History
 from debvote_tools.inbox import letter_words
 from debvote_tools.inbox.judging import letters_now
-from debvote_tools.inbox.vote import Vote, envelope_words, standing_words
+from debvote_tools.inbox.vote import Vote
+from debvote_tools.inbox.vote_words import envelope_words, standing_words
 from debvote_tools.outbox.steps import tell_next
 
 

@@ -81,10 +81,14 @@ PAGE_OF_BEFORE = (
     "Note: the page there is the one of before: upload the folder call, then run this again."
 )
 OTHER_PAGE = (
-    "Note: the page there is not that of the folder call: a script in it would see what is chosen, and could vote in the name of who opens it. "
+    "Note: the page there is not that of the folder call: a script in it would see what is "
+    "chosen, and could vote in the name of who opens it. "
     "Upload the folder, and run this again; if it is still so, take another web host."
 )
-POLICY = "Note: the web host sends its page with a Content-Security-Policy, by which browsers may not run its script: open it, and look whether it has its button."
+POLICY = (
+    "Note: the web host sends its page with a Content-Security-Policy, by which browsers may not "
+    "run its script: open it, and look whether it has its button."
+)
 
 # in seconds: how far the clock of the box may be from ours unsaid
 MOST_OFF = 60
@@ -103,7 +107,8 @@ PROOF = re.compile(r"X-Proof: (\w+)")
 # what is sealed: a line and the elector on it, their personal link, in it the own mark and the
 # third part, and the time by their device; in a vote with tellers what is sealed to them
 INSIDE = re.compile(
-    rf"(([a-z0-9.-]{{1,32}}) [A-Z0-9, -]+)\n(\2/({OWN})/([{OWN_SIGNS}]{{{LINK_LENGTH}}}))\n({YEAR}-\d\d-\d\dT\d\d:\d\d:\d\d\.\d{{3}}Z)(?:\n([\w-]+))?",
+    rf"(([a-z0-9.-]{{1,32}}) [A-Z0-9, "
+    rf"-]+)\n(\2/({OWN})/([{OWN_SIGNS}]{{{LINK_LENGTH}}}))\n({YEAR}-\d\d-\d\dT\d\d:\d\d:\d\d\.\d{{3}}Z)(?:\n([\w-]+))?",
     re.ASCII,
 )
 
@@ -246,14 +251,14 @@ def brought_by(vote: Vote, history: History, asked: Asked) -> Brought:
     at = history.announced("at")
     # of another host neither the clock nor the records say anything of this one
     before = last_box(history, at)
-    kept = queries.records_since(vote.book, vote.call.number)
-    letters, unopened = records_in(vote, asked, before, kept)
+    kept_records = queries.records_since(vote.book, vote.call.number)
+    letters, unopened = records_in(vote, asked, before, kept_records)
     came = {raw.digest for raw in letters}
     box: Detail = {
         "at": at,
         "time": asked.time.isoformat(),
         "records": len(letters),
-        "gone": sum(record.at == at and record.digest not in came for record in kept),
+        "gone": sum(record.at == at and record.digest not in came for record in kept_records),
         "unopened": len(unopened),
         "lost": last_box(history).get("lost", {}) | whose(vote, unopened, asked.time),
         "behind": asked.behind,
@@ -302,7 +307,10 @@ def upload_words(election: Election, box: Detail) -> Iterator[str]:
     if "-src" in box.get("policy", ""):
         yield POLICY
     if not has_list_of_now(election, box["list"]):
-        yield f"Note: the web host has another {SCRIPT} than the folder call, as an older one: upload that of the folder, since who has a new link cannot vote there."
+        yield (
+            f"Note: the web host has another {SCRIPT} than the folder call, as an older one: "
+            "upload that of the folder, since who has a new link cannot vote there."
+        )
 
 
 def unopened_words(vote: Vote, shown: Callable[[str], str] = str) -> str:
@@ -312,7 +320,12 @@ def unopened_words(vote: Vote, shown: Callable[[str], str] = str) -> str:
     history = vote.history()
     names = shown(listed(with_lost_records(vote.election, history), MOST_NAMED))
     whose = f", by the links of {names}, who are to vote again" if names else ""
-    return f"Note: {count_of(last_box(history)['unopened'], 'record')} can't be opened, or came above the {MOST} of a link, passed over{whose}. An older page may have sent such a one, or the web host have made it. If {MOST} ballots came by a link, {vote.election.command('roll', '--new-link', 'NAME')} makes another."
+    return (
+        f"Note: {count_of(last_box(history)['unopened'], 'record')} can't be opened, or came "
+        f"above the {MOST} of a link, passed over{whose}. An older page may have sent such a "
+        f"one, or the web host have made it. If {MOST} ballots came by a link, "
+        f"{vote.election.command('roll', '--new-link', 'NAME')} makes another."
+    )
 
 
 def arrived(raw: RawLetter) -> datetime.datetime:
@@ -332,7 +345,7 @@ def in_order(records: bytes) -> list[RawLetter]:
 
 
 def records_in(
-    vote: Vote, asked: Asked, before: Detail, kept: Sequence[KeptRecord]
+    vote: Vote, asked: Asked, before: Detail, kept_records: Sequence[KeptRecord]
 ) -> tuple[list[RawLetter], list[RawLetter]]:
     """The records as letters; and those that can't be opened, of no elector, or above the most that
     are kept of a link, also with those that came before. What was kept is not opened again.
@@ -344,9 +357,9 @@ def records_in(
     # when each was sent by the device, which of a ballot that the host repeats is one time, and
     # whether the host dates it alike
     by_link = grouped(
-        (record.link, (from_text(record.sent), record.is_dated_alike)) for record in kept
+        (record.link, (from_text(record.sent), record.is_dated_alike)) for record in kept_records
     )
-    known = {record.digest for record in kept}
+    known = {record.digest for record in kept_records}
     letters = []
     unopened = []
     for raw in in_order(asked.records):
@@ -402,10 +415,9 @@ def opened_record(book: Book, raw: RawLetter) -> RawLetter:
 
 def is_for_tellers(book: Book, line: str, block: str, length: int) -> bool:
     """Whether a record has what is sealed to tellers if the vote has some, and only then."""
-    history = History(book.acts())
-    if not (tellers := history.tellers) or history.call is None:
+    if not (tellers := History(book.acts()).tellers):
         return not block
-    poll = read_plain(queries.sealed(book, POLL, history.call.number))
+    poll = read_plain(queries.sealed(book, POLL))
     return has_right_block(poll, len(tellers), line, block, length)
 
 

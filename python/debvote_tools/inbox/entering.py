@@ -13,7 +13,8 @@ from debvote_tools.cli.console import act_time, count_of, say, say_time, shown_l
 from debvote_tools.cli.faults import Fault, Status, bad_words
 from debvote_tools.election import Election, History
 from debvote_tools.files import BALLOTS_LIMIT, LINES_LIMIT
-from debvote_tools.inbox.vote import CheckedLine, Vote, envelope_words, replies_to
+from debvote_tools.inbox.vote import CheckedLine, Vote, replies_to
+from debvote_tools.inbox.vote_words import envelope_words
 from debvote_tools.text.language import marked
 from debvote_tools.text.times import now
 
@@ -58,10 +59,10 @@ class Entry(Change):
         """What is told, by the numbers of the envelopes and the replies."""
         return ()
 
-    def report(self, act: int) -> None:
+    def report(self, number: int) -> None:
         book = self.vote.book
-        first, electors, lines = queries.entered_by(book, act)
-        counting = queries.what_counts(book, electors, at=act - 1)
+        first, electors, lines = queries.entered_by(book, number)
+        counting = queries.what_counts(book, electors, at=number - 1)
         replies = [*replies_to(lines, counting, is_late=self.is_late)]
         numbers = range(first, first + len(lines))
         try:
@@ -94,7 +95,8 @@ def late_notes(election: Election, history: History, what: str) -> list[str]:
         return [say("Note: the vote was closed at {closed}; {what} now is late.", closed, what)]
     if history.until is not None and not history.closes and now() >= history.until:
         words = say(
-            "Note: the announced end of the vote, {until}, has passed; {what} still counts until you close the vote, and the result page says how many lines: {close}",
+            "Note: the announced end of the vote, {until}, has passed; {what} still counts "
+            "until you close the vote, and the result page says how many lines: {close}",
             say_time(history.until),
             what,
             election.command("close"),

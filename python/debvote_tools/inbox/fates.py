@@ -10,7 +10,7 @@ from debvote_tools.book.queries import Elector, Envelope
 from debvote_tools.election import Election, History
 from debvote_tools.grouping import grouped
 from debvote_tools.inbox.judging import judged
-from debvote_tools.inbox.rules import LetterCase, LetterOutcome
+from debvote_tools.inbox.rules import LetterCase, Ruling
 from debvote_tools.inbox.vote import Vote
 from debvote_tools.text.ballots import Ballot
 
@@ -29,8 +29,8 @@ class Fate(NamedTuple):
     """
 
     time: datetime.datetime
-    # of an envelope as the view `fate` says; of a letter its outcome
-    became: str | LetterOutcome
+    # of an envelope as the view `fate` says; of a letter its ruling
+    became: str | Ruling
     envelope: Envelope | None = None
     letter: LetterCase | None = None
     is_own: bool = False
@@ -110,7 +110,7 @@ def fates_of_letter(
     for name in dict.fromkeys((*letter.electors, *senders)) or [NOBODY]:
         yield name, Fate(
             time,
-            letter.outcome,
+            letter.ruling,
             letter=letter,
             is_own=name in letter.sharing,
             names_them=name in letter.electors,
@@ -129,9 +129,9 @@ def is_told(fate: Fate) -> bool:
         return True
     if letter.is_automatic and (fate.is_own or not letter.ballots):
         return False
-    if fate.became is LetterOutcome.ENTERED:
+    if fate.became is Ruling.ENTERED:
         return fate.names_them
-    return fate.became not in (LetterOutcome.COPY, LetterOutcome.OTHER_VOTE)
+    return fate.became not in (Ruling.COPY, Ruling.OTHER_VOTE)
 
 
 def told_of(fates: Sequence[Fate]) -> dict[About, Fate]:

@@ -11,10 +11,8 @@ import functools
 import itertools
 import operator
 from collections.abc import Collection, Iterable, Mapping, Sequence, Set
-from typing import Any
 
 from debvote_tools.book import queries
-from debvote_tools.book.book import Book
 from debvote_tools.book.queries import KeptLetter, TimedBallot
 from debvote_tools.call.tellers import ON_PAPER
 from debvote_tools.election import BOX_KEY, KEYRING, History
@@ -26,7 +24,7 @@ from debvote_tools.inbox.reasons import Reason, ReasonWithValues
 from debvote_tools.inbox.rules import (
     Circumstances,
     LetterCase,
-    LetterOutcome,
+    Ruling,
     why_not_own_vote,
 )
 from debvote_tools.inbox.vote import Vote
@@ -34,15 +32,15 @@ from debvote_tools.text import times
 from debvote_tools.text.ballots import Ballot
 
 # what becomes of a letter, and why it waits or was set aside
-Judgement = tuple[LetterOutcome, ReasonWithValues | None]
+Judgement = tuple[Ruling, ReasonWithValues | None]
 
 # what an act decided holds, whatever the rules say
 DECIDED: Mapping[str, Judgement] = {
-    queries.ENTERED: (LetterOutcome.ENTERED, None),
-    queries.SET_ASIDE: (LetterOutcome.SET_ASIDE, Reason.SET_ASIDE()),
-    queries.STRUCK: (LetterOutcome.SET_ASIDE, Reason.STRUCK()),
-    queries.TAKEN_BACK: (LetterOutcome.WAITS, Reason.TAKEN_BACK()),
-    queries.PUT_BACK: (LetterOutcome.WAITS, Reason.PUT_BACK()),
+    queries.ENTERED: (Ruling.ENTERED, None),
+    queries.SET_ASIDE: (Ruling.SET_ASIDE, Reason.SET_ASIDE()),
+    queries.STRUCK: (Ruling.SET_ASIDE, Reason.STRUCK()),
+    queries.TAKEN_BACK: (Ruling.WAITS, Reason.TAKEN_BACK()),
+    queries.PUT_BACK: (Ruling.WAITS, Reason.PUT_BACK()),
 }
 
 TIME = operator.attrgetter("time")
@@ -153,18 +151,21 @@ BallotsByElector = collections.defaultdict[str, ElectorBallots]
 
 
 def judged(
-    vote: Vote, history: History, kept: Sequence[KeptLetter], previewed: Sequence[ReadLetter] = ()
+    vote: Vote,
+    history: History,
+    kept_letters: Sequence[KeptLetter],
+    previewed: Sequence[ReadLetter] = (),
 ) -> list[LetterCase]:
     """Letters that the book has, as they are judged now, and letters that `add --look` previews, in
     the order of their times.
     """
-    if not kept and not previewed:
+    if not kept_letters and not previewed:
         return []
     circumstances = circumstances_now(vote, history)
-    entered = queries.entered_ballots(vote.book, [letter.number for letter in kept])
+    entered = queries.entered_ballots(vote.book, [letter.number for letter in kept_letters])
     cases = [
         LetterCase(read, circumstances, letter, entered.get(letter.number, ()))
-        for read, letter in zip(read_kept(vote, kept), kept)
+        for read, letter in zip(read_kept(vote, kept_letters), kept_letters)
     ]
     cases += (LetterCase(read, circumstances) for read in previewed)
     names = {elector for case in cases for elector in case.electors}
@@ -174,23 +175,23 @@ def judged(
 
 def letters_now(vote: Vote) -> dict[int, LetterCase]:
     """The letters that may wait, and their copies, as they are judged now, by number."""
-    kept = queries.may_wait(vote.book)
-    return {letter.number: letter for letter in judged(vote, vote.election.history(), kept)}
+    kept_letters = queries.may_wait(vote.book)
+    return {letter.number: letter for letter in judged(vote, vote.election.history(), kept_letters)}
 
 
 # ---- what they are judged by
-def read_kept(vote: Vote, kept: Sequence[KeptLetter]) -> list[ReadLetter]:
+def read_kept(vote: Vote, kept_letters: Sequence[KeptLetter]) -> list[ReadLetter]:
     """What the book keeps of letters. A signature is checked anew if the letter came before the
     present keyring, or gpgv was too slow: of an unsettled letter; and, if such a one is signed, of
     those that were settled without a good signature, since only then a copy is known as one.
     """
-    read = {letter.number: from_json(letter.read_json) for letter in kept}
-    unsettled = [letter for letter in kept if letter.is_unsettled]
+    read = {letter.number: from_json(letter.read_json) for letter in kept_letters}
+    unsettled = [letter for letter in kept_letters if letter.is_unsettled]
     read |= checked_again(vote, unsettled, read)
     if any(read[letter.number].signature for letter in unsettled):
         unsigned = (
             letter
-            for letter in kept
+            for letter in kept_letters
             if not letter.is_unsettled and read[letter.number].signature is None
         )
         read |= checked_again(vote, unsigned, read)
@@ -198,12 +199,12 @@ def read_kept(vote: Vote, kept: Sequence[KeptLetter]) -> list[ReadLetter]:
 
 
 def checked_again(
-    vote: Vote, kept: Iterable[KeptLetter], read: Mapping[int, ReadLetter]
+    vote: Vote, kept_letters: Iterable[KeptLetter], read: Mapping[int, ReadLetter]
 ) -> dict[int, ReadLetter]:
     """Those letters of which a signature may be good now, read again, by number."""
     sealed = queries.last_act_that_sealed(vote.book, KEYRING)
     raws = {}
-    for letter in kept:
+    for letter in kept_letters:
         before = read[letter.number]
         if before.is_slow or (letter.act < sealed and not before.is_never_signed):
             # no record of the box: a vote with signatures has none
@@ -237,17 +238,10 @@ def circumstances_now(vote: Vote, history: History) -> Circumstances:
         is_closed=history.is_closed,
         now=times.now(),
         box_key=queries.sealed(book, BOX_KEY),
-        **of_tellers(book, history),
+        has_tellers=vote.has_tellers,
+        on_paper=queries.electors_with(book, ON_PAPER) if vote.has_tellers else (),
+        first_blocks=queries.first_blocks(book) if vote.has_tellers else {},
     )
-
-
-def of_tellers(book: Book, history: History) -> dict[str, Any]:
-    """What letters of a vote with tellers are judged by, too."""
-    if not history.tellers:
-        return {}
-    first = {kept.block: kept for kept in reversed(queries.kept_blocks(book))}
-    on_paper = queries.electors_with(book, ON_PAPER)
-    return {"has_tellers": True, "on_paper": on_paper, "first_blocks": first}
 
 
 # ---- one letter beside the others
@@ -259,8 +253,8 @@ def judge_all(cases: Iterable[LetterCase], by_elector: BallotsByElector) -> list
     """
     cases = sorted(cases, key=lambda case: (case.time is None, case.time or case.circumstances.now))
     for case in cases:
-        case.outcome, case.reason = DECIDED.get(case.kept.state) or (
-            LetterOutcome.WAITS,
+        case.ruling, case.reason = DECIDED.get(case.kept.state) or (
+            Ruling.WAITS,
             case.first_broken_rule,
         )
     groups = grouped((case.read.identity, case) for case in cases).values()
@@ -269,12 +263,12 @@ def judge_all(cases: Iterable[LetterCase], by_elector: BallotsByElector) -> list
     for group in groups:
         judge_copies(group, originals, by_elector)
     for case in cases:
-        if case.outcome is LetterOutcome.WAITS and not case.is_decided and case.other_vote:
-            case.outcome = LetterOutcome.OTHER_VOTE
+        if case.ruling is Ruling.WAITS and not case.is_decided and case.other_vote:
+            case.ruling = Ruling.OTHER_VOTE
             case.reason = Reason.OTHER_MARK(mark=case.other_vote)
         # also one that was taken back
-        elif case.outcome is LetterOutcome.WAITS and (why := why_not_own_vote(case)):
-            case.outcome = LetterOutcome.PASSED_OVER
+        elif case.ruling is Ruling.WAITS and (why := why_not_own_vote(case)):
+            case.ruling = Ruling.PASSED_OVER
             case.reason = why
         case.voted_since = voted_since(case, by_elector)
     return cases
@@ -335,18 +329,18 @@ def judge_originals(
     }
     for case, own in in_order.items():
         ballots = by_elector[case.elector]
-        case.outcome, case.reason = outcome_of_original(
+        case.ruling, case.reason = judgement_of_original(
             case,
             own,
             ballots,
             has_other_at_once=every[case.elector].has_other_at_once(own),
             is_unchecked=own.ballot in unchecked,
         )
-        if case.outcome is not LetterOutcome.WAITS:
+        if case.ruling is not Ruling.WAITS:
             ballots.add(own)
 
 
-def outcome_of_original(
+def judgement_of_original(
     case: LetterCase,
     own: TimedBallot,
     ballots: ElectorBallots,
@@ -360,20 +354,20 @@ def outcome_of_original(
     """
     elector = case.elector
     if turned := ballots.turned(own):
-        return LetterOutcome.WAITS, Reason.CLOCKS(elector=elector, time=turned.time)
+        return Ruling.WAITS, Reason.CLOCKS(elector=elector, time=turned.time)
     if later := ballots.later(own):
         # this one can count in no case; the time of a line is only when somebody entered it
         is_older = ballots.later(own, by_letter=True).keys() == own.labels
         reason = Reason.LATER_BALLOT(elector=elector, time=max(map(TIME, later.values())))
-        return LetterOutcome.OLDER if is_older else LetterOutcome.WAITS, reason
+        return Ruling.OLDER if is_older else Ruling.WAITS, reason
     if has_other_at_once:
-        return LetterOutcome.WAITS, Reason.SAME_TIME(elector=elector, time=own.time)
+        return Ruling.WAITS, Reason.SAME_TIME(elector=elector, time=own.time)
     if is_unchecked:
-        return LetterOutcome.WAITS, Reason.PERHAPS_COPY()
+        return Ruling.WAITS, Reason.PERHAPS_COPY()
     if case.circumstances.is_closed:
         # it would become late, and the plainer a ballot is, the less would that be noticed
-        return LetterOutcome.WAITS, Reason.CLOSED()
-    return LetterOutcome.GOES_IN, None
+        return Ruling.WAITS, Reason.CLOSED()
+    return Ruling.GOES_IN, None
 
 
 def judge_copies(
@@ -397,13 +391,13 @@ def judge_copies(
         facts = case.first_broken_rule, case.read.body, case.arrived_in_time
         before = first_alike.setdefault(facts, case)
         if hider := next((hider for hider in hiders if hider.can_hide(case)), None):
-            is_done = hider.is_decided or hider.outcome is not LetterOutcome.WAITS
+            is_done = hider.is_decided or hider.ruling is not Ruling.WAITS
             before = hider if is_done or case.first_broken_rule is None else before
         if case in others and before is not case:
-            case.outcome, case.reason = outcome_of_copy(case, before, by_elector)
+            case.ruling, case.reason = judgement_of_copy(case, before, by_elector)
 
 
-def outcome_of_copy(
+def judgement_of_copy(
     case: LetterCase, original: LetterCase, by_elector: BallotsByElector
 ) -> Judgement:
     """A copy of a letter is ignored, unless another ballot lies between: which of the two copies
@@ -411,7 +405,7 @@ def outcome_of_copy(
     last.
     """
     if original.time is None or case.time is None:
-        return LetterOutcome.COPY, None
+        return Ruling.COPY, None
     begin, end = sorted((original.time, case.time))
     # not what was typed for it, nor another line of it
     known = {ballot.number for ballot in original.entered}
@@ -419,7 +413,7 @@ def outcome_of_copy(
     for ballot in (*(line.ballot for line in case.ballots), *typed):
         own, elector = ballot_in(original, ballot), ballot.elector
         if between := by_elector[elector].first_other(own, begin, end, known):
-            return LetterOutcome.WAITS, Reason.CAME_BEFORE(
+            return Ruling.WAITS, Reason.CAME_BEFORE(
                 elector=elector, time=case.time, first=original.time, between=between.time
             )
-    return LetterOutcome.COPY, None
+    return Ruling.COPY, None

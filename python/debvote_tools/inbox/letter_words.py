@@ -22,9 +22,10 @@ from debvote_tools.cli.console import (
 )
 from debvote_tools.inbox.letter_lines import BallotLine
 from debvote_tools.inbox.letter_text import MAX_WORDS
-from debvote_tools.inbox.rules import LetterCase, LetterOutcome
+from debvote_tools.inbox.rules import LetterCase, Ruling
 from debvote_tools.inbox.reasons import for_secretary
-from debvote_tools.inbox.vote import IS_CODE, Vote
+from debvote_tools.inbox.vote import Vote
+from debvote_tools.inbox.vote_words import IS_CODE, are_many, show_words, with_answers
 from debvote_tools.text.language import SPOKEN
 
 # how many attachments are named
@@ -78,13 +79,13 @@ def going_in_words(letters: Sequence[LetterCase], vote: Vote) -> Iterator[str]:
         letters = [letter for letter in letters if not letter.read.link]
         if sealed:
             yield f"{say_number('{number} sealed ballot', '{number} sealed ballots', len(sealed))}: {', '.join(sorted({*sealed}))}"
-    are_many = vote.are_many(letter.sole_line.ballot for letter in letters)
+    is_short = are_many(vote, (letter.sole_line.ballot for letter in letters))
     between = "\n  " if vote.is_several else "; "
     for letter in letters:
-        said = ballot_words(letter, vote, is_short=are_many)
+        said = ballot_words(letter, vote, is_short=is_short)
         yield between.join([said, *more_words(letter)])
-    if are_many:
-        yield vote.show_words
+    if is_short:
+        yield show_words(vote)
 
 
 def ballot_words(letter: LetterCase, vote: Vote, *, is_short: bool) -> str:
@@ -95,7 +96,7 @@ def ballot_words(letter: LetterCase, vote: Vote, *, is_short: bool) -> str:
         "" if is_same or hides() else f", {say('written')} `{shown_line(line.written.encode())}`"
     )
     whose = f"{ballot.elector} ({name_of(letter)}{as_written})"
-    return vote.with_answers(whose, ballot.answers, is_short=is_short)
+    return with_answers(vote, whose, ballot.answers, is_short=is_short)
 
 
 def more_words(letter: LetterCase) -> list[str]:
@@ -136,7 +137,7 @@ def judged_anew(
     """
     for number, letter in after.items():
         facts = {
-            (case.outcome, case.reason, case.is_pending and case.electors)
+            (case.ruling, case.reason, case.is_pending and case.electors)
             for case in (letter, before.get(number, letter))
         }
         if len(facts) > 1 and number not in others:
@@ -154,8 +155,8 @@ def why(letter: LetterCase, elector: str = "") -> str:
     """Why a letter waits, or what became of it; and who has voted since, or whether an elector
     has.
     """
-    why = say(letter.outcome.value) if letter.reason is None else for_secretary(letter.reason)
-    if letter.outcome is LetterOutcome.GOES_IN:
+    why = say(letter.ruling.value) if letter.reason is None else for_secretary(letter.reason)
+    if letter.ruling is Ruling.GOES_IN:
         # nobody has agreed to it yet
         why = say("it goes in with the next add of letters")
     since = [name for name in letter.voted_since if elector in ("", name)]
@@ -194,9 +195,9 @@ def went_in_words(letters: Sequence[LetterCase], entered: int, *, is_look: bool)
     """How many ballots of letters went in, or would, and what became of the other letters."""
     ballots = say_number("{number} ballot of letters", "{number} ballots of letters", entered)
     went_in = say("would go in") if is_look else say("went in")
-    copies = sum(letter.outcome is LetterOutcome.COPY for letter in letters)
+    copies = sum(letter.ruling is Ruling.COPY for letter in letters)
     passed = say_number("{number} copy passed over", "{number} copies passed over", copies)
-    waits = sum(letter.outcome is LetterOutcome.WAITS for letter in letters)
+    waits = sum(letter.ruling is Ruling.WAITS for letter in letters)
     return f"{ballots} {went_in}; {wait_words(waits)}{copies and f'; {passed}' or ''}."
 
 
@@ -210,7 +211,7 @@ def whole(letter: LetterCase, is_ours: Callable[[str], bool]) -> Iterator[str]:
         yield f"  {say('subject')}: {subject_of(letter)}"
         if not hides():
             yield from text_of(letter, is_ours)
-        if letter.outcome is LetterOutcome.ENTERED:
+        if letter.ruling is Ruling.ENTERED:
             yield say("It was entered.")
         elif letter.reason is not None:
             waits = say("It waits") if letter.is_pending else say("It does not wait")

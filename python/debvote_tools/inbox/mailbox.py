@@ -29,7 +29,8 @@ UNFINISHED = "tmp"
 # a field of a head, and fields that most heads have
 FIELD = re.compile(rb"[!-9;-~]+[ \t]*:")
 USUAL = re.compile(
-    rb"(?im)^(from|date|subject|to|message-id|received|mime-version|return-path|delivered-to|reply-to|content-type|x-mozilla-status|"
+    rb"(?im)^(from|date|subject|to|message-id|received|mime-version|return-path|delivered-to|"
+    rb"reply-to|content-type|x-mozilla-status|"
     rb"von|datum|betreff|an)[ \t]*:"
 )
 MIN_USUAL = 2

@@ -48,7 +48,8 @@ class Reason(enum.Enum):
     STRUCK = "its ballot was struck", "The reason: the secretary has taken its ballot out again."
     # it can't be read with certainty
     PARTED_OFF = (
-        "it may be part of the letter above it in the mailbox, or have other letters in it: look at the file, and save its letters as .eml",
+        "it may be part of the letter above it in the mailbox, or have other letters in it: "
+        "look at the file, and save its letters as .eml",
         LOOKED_AT,
     )
     TOO_LONG = "it has {length} {what}; at most {limit} are read", UNCERTAIN
@@ -99,12 +100,14 @@ class Reason(enum.Enum):
         OTHER_ADDRESS,
     )
     OWN_MARK_ELSEWHERE = (
-        "it came from {sender}, which is not the address of {elector} in the list of members, but its subject has the own mark of {elector}",
+        "it came from {sender}, which is not the address of {elector} in the list of members, "
+        "but its subject has the own mark of {elector}",
         OTHER_ADDRESS,
     )
     OLD_OWN_MARK = (
         "its subject has the own mark that {elector} had until {until}",
-        "The reason: its subject ends with an own mark that you no longer have, as after a change of your address. Answer the newest letter of this vote to you.",
+        "The reason: its subject ends with an own mark that you no longer have, as after a "
+        "change of your address. Answer the newest letter of this vote to you.",
     )
     NO_OWN_MARK = (
         "its subject lacks the own mark of {elector}, so anybody may have sent it",
@@ -112,11 +115,13 @@ class Reason(enum.Enum):
     )
     # it came by the page of the vote
     OTHER_LINK = (
-        "it came by the page of the vote with a link that is not that of {elector} now: a new address or a new call makes a new one, and a book that was put back lacks some",
+        "it came by the page of the vote with a link that is not that of {elector} now: a new "
+        "address or a new call makes a new one, and a book that was put back lacks some",
         LOOKED_AT,
     )
     FETCHED = (
-        "it is in the file of the web box, which others may have changed: run add --box, or enter it if the web box does not answer",
+        "it is in the file of the web box, which others may have changed: run add --box, or "
+        "enter it if the web box does not answer",
         LOOKED_AT,
     )
     NOT_THERE_BEFORE = (
@@ -124,15 +129,18 @@ class Reason(enum.Enum):
         LOOKED_AT,
     )
     OTHER_TIME = (
-        "by the clock of its device it was sent at {sent}, more than ten minutes from the time of the web host: one of the two clocks is wrong, or the host dated it anew",
+        "by the clock of its device it was sent at {sent}, more than ten minutes from the time "
+        "of the web host: one of the two clocks is wrong, or the host dated it anew",
         LOOKED_AT,
     )
     NOT_SENT_LATER = (
-        "by the clocks of their devices it is not later than a ballot of its elector that came before it: the web host may have exchanged the two, or a clock was wrong",
+        "by the clocks of their devices it is not later than a ballot of its elector that came "
+        "before it: the web host may have exchanged the two, or a clock was wrong",
         LOOKED_AT,
     )
     CLOCK_AT_THE_END = (
-        "it came near the end or the close, sent at {sent} by the clock of its device, and that of the web host was off by {seconds} seconds",
+        "it came near the end or the close, sent at {sent} by the clock of its device, and that "
+        "of the web host was off by {seconds} seconds",
         LOOKED_AT,
     )
     CLOCKS = (
@@ -141,8 +149,10 @@ class Reason(enum.Enum):
     )
     # of a vote with tellers
     NOT_SEALED = (
-        "a ballot that somebody can read does not count in this vote: set it aside, and ask its sender to use the page, or to vote on paper",
-        "The reason: in this vote nobody may read a ballot, so none can come by e-mail. Open the link in your letter, or vote on paper.",
+        "a ballot that somebody can read does not count in this vote: set it aside, and ask its "
+        "sender to use the page, or to vote on paper",
+        "The reason: in this vote nobody may read a ballot, so none can come by e-mail. Open "
+        "the link in your letter, or vote on paper.",
     )
     ON_PAPER = (
         "{elector} has voted on paper, and clicks do not count",
@@ -180,7 +190,8 @@ class Reason(enum.Enum):
         "The reason: another ballot of this elector has the same time.",
     )
     CAME_BEFORE = (
-        "it is a copy, of {time}, of a letter of {first} that was read before, and {elector} has a ballot of {between}, between the two",
+        "it is a copy, of {time}, of a letter of {first} that was read before, and {elector} "
+        "has a ballot of {between}, between the two",
         "The reason: it came twice, and another ballot of this elector came between.",
     )
     # its signature

@@ -35,7 +35,9 @@ AHEAD = datetime.timedelta(minutes=10)
 MISCOPIED = 2
 
 
-class LetterOutcome(enum.Enum):
+class Ruling(enum.Enum):
+    """What is done with a letter, as it is judged now."""
+
     # no rule stops it, so it goes in when the secretary agrees in `add`; until then it is pending
     GOES_IN = "goes in"
     WAITS = "waits"
@@ -134,7 +136,7 @@ class LetterCase:
     book keeps of it, and its ballots that were entered. What becomes of it `judge_all` finds.
     """
 
-    outcome = LetterOutcome.WAITS
+    ruling = Ruling.WAITS
     # why it waits or was set aside
     reason: ReasonWithValues | None = None
     # its electors who have a later ballot, or may have: whether it is sure
@@ -285,7 +287,7 @@ class LetterCase:
         """Whether the secretary still has to look at it, since it waits, or to agree in `add` that
         it goes in.
         """
-        return self.outcome in (LetterOutcome.GOES_IN, LetterOutcome.WAITS)
+        return self.ruling in (Ruling.GOES_IN, Ruling.WAITS)
 
     @property
     def to_enter(self) -> Sequence[BallotLine]:
@@ -393,16 +395,17 @@ def why_not_own_vote(case: LetterCase) -> ReasonWithValues | None:
     of the urn; and nobody else has sent what is sealed in it before: whoever copies a ballot would
     learn from the lists whether that is there.
     """
-    if not (block := case.read.block):
+    read = case.read
+    if not read.block:
         return None
-    if case.read.elector in case.circumstances.on_paper:
-        return Reason.ON_PAPER(elector=case.read.elector)
-    first = case.circumstances.first_blocks.get(block)
-    if first is None or first.elector == case.read.elector:
+    if read.elector in case.circumstances.on_paper:
+        return Reason.ON_PAPER(elector=read.elector)
+    first = case.circumstances.first_blocks.get(read.block)
+    if first is None or first.elector == read.elector:
         return None
-    arrived = case.read.arrived
+    arrived = read.arrived
     is_later = arrived is None or (first.arrived, first.letter) < (arrived, case.number or NEXT)
-    return Reason.BLOCK_OF_OTHER(elector=case.read.elector) if is_later else None
+    return Reason.BLOCK_OF_OTHER(elector=read.elector) if is_later else None
 
 
 def why_not_sealed(case: LetterCase) -> ReasonWithValues | None:

@@ -110,19 +110,19 @@ def cases_of(
     # have known when they came
     is_signed = history.announced("signed")
     book = election.book
-    if not (kept := queries.kept_letters(book) if is_signed else chosen(book)):
+    if not (kept_letters := queries.kept_letters(book) if is_signed else chosen(book)):
         return []
     from debvote_tools.inbox.judging import judged
     from debvote_tools.inbox.vote import Vote
 
-    return judged(Vote(election), history, kept)
+    return judged(Vote(election), history, kept_letters)
 
 
 def pending_of(history: History, letters: Sequence["LetterCase"]) -> Pending:
     if not letters:
         return Pending()
     from debvote_tools.inbox.reasons import for_secretary
-    from debvote_tools.inbox.rules import LetterOutcome
+    from debvote_tools.inbox.rules import Ruling
 
     pending = [letter for letter in letters if letter.is_pending]
     arrived_in_time = sorted(letter.number for letter in pending if letter.arrived_in_time)
@@ -136,11 +136,11 @@ def pending_of(history: History, letters: Sequence["LetterCase"]) -> Pending:
         [number for number in arrived_in_time if number not in told],
         after_end,
         len(pending) - len(arrived_in_time) - after_end,
-        [case.other_vote for case in letters if case.outcome is LetterOutcome.OTHER_VOTE],
+        [case.other_vote for case in letters if case.ruling is Ruling.OTHER_VOTE],
         [
             f"Letter {case.number} is passed over: {for_secretary(case.reason)}."
             for case in letters
-            if case.outcome is LetterOutcome.PASSED_OVER and case.reason
+            if case.ruling is Ruling.PASSED_OVER and case.reason
         ],
     )
 

@@ -30,8 +30,9 @@ from debvote_tools.inbox.judging import judged
 from debvote_tools.inbox.letter_lines import ReadLetter, read_letters, to_json
 from debvote_tools.inbox.mailbox import RawLetter
 from debvote_tools.inbox.box_records import Brought, asked_box, opened_record, unopened_words
-from debvote_tools.inbox.rules import LetterCase, LetterOutcome
+from debvote_tools.inbox.rules import LetterCase, Ruling
 from debvote_tools.inbox.vote import Vote
+from debvote_tools.inbox.vote_words import ballot_in_words
 from debvote_tools.inbox.stopping import other_votes_words
 from debvote_tools.text.ballots import Ballot
 
@@ -82,21 +83,25 @@ def take_letters(
 def new_in(vote: Vote, brought: Brought) -> tuple[list[RawLetter], list[ReadLetter]]:
     """The letters that the book does not have, each of them once, and as they are read."""
     raws = [raw for raw in brought.letters if raw.why_not_read is None]
-    kept = queries.kept_digests(vote.book)
+    kept_digests = queries.kept_digests(vote.book)
     # of letters with the same bytes the first that can't be text of another, or else the first
     chosen: dict[str, RawLetter] = {}
     for raw in raws:
         if raw.digest not in chosen or chosen[raw.digest].is_parted_off > raw.is_parted_off:
             chosen[raw.digest] = raw
-    new = [raw for digest, raw in chosen.items() if is_not_kept(digest, raw.is_parted_off, kept)]
+    new = [
+        raw
+        for digest, raw in chosen.items()
+        if is_not_kept(digest, raw.is_parted_off, kept_digests)
+    ]
     return new, read_letters(vote, new)
 
 
-def is_not_kept(digest: str, is_parted_off: bool, kept: Set[tuple[str, bool]]) -> bool:
+def is_not_kept(digest: str, is_parted_off: bool, kept_digests: Set[tuple[str, bool]]) -> bool:
     """Whether the book lacks a letter. If it has it only as what may be text of another letter, it
     lacks the one that comes on its own.
     """
-    return kept.isdisjoint([(digest, False), (digest, is_parted_off)])
+    return kept_digests.isdisjoint([(digest, False), (digest, is_parted_off)])
 
 
 def keep(vote: Vote, raws: Sequence[RawLetter], read: Sequence[ReadLetter], detail: Detail) -> None:
@@ -108,10 +113,10 @@ def keep(vote: Vote, raws: Sequence[RawLetter], read: Sequence[ReadLetter], deta
     with vote.book.act("letters", {"letters": len(raws), **detail}) as act:
         # their lines were read by the poll of this call
         vote.history()
-        kept = queries.kept_digests(vote.book)
+        kept_digests = queries.kept_digests(vote.book)
         for raw, letter in zip(raws, read):
             # another command may have kept it meanwhile
-            if is_not_kept(letter.digest, letter.is_parted_off, kept):
+            if is_not_kept(letter.digest, letter.is_parted_off, kept_digests):
                 queries.keep_letter(
                     act, safe(raw.where), raw.data, letter.identity, to_json(letter)
                 )
@@ -133,7 +138,7 @@ class LetterEntry(Entry):
         for number, reply, envelope in zip(numbers, replies, self.envelopes):
             ballot = Ballot(envelope.line.decode("ascii"))
             name = ballot.elector
-            said = name if self.vote.is_several else self.vote.ballot_in_words(ballot)
+            said = name if self.vote.is_several else ballot_in_words(self.vote, ballot)
             lines.append(f"{reply}  {name}" if is_secret else f"{number} {reply}  {said}")
         yield from sorted(lines) if is_secret else lines
         yield from filter(None, [self.end])
@@ -147,8 +152,8 @@ def envelope_of(letter: LetterCase, ballot: Ballot) -> NewEnvelope:
     return NewEnvelope(ballot.line.encode(), "", letter.kept.source, letter.number, letter.time)
 
 
-def with_outcome(cases: Iterable[LetterCase], outcome: LetterOutcome) -> list[LetterCase]:
-    return [letter for letter in cases if letter.outcome is outcome]
+def with_ruling(cases: Iterable[LetterCase], ruling: Ruling) -> list[LetterCase]:
+    return [letter for letter in cases if letter.ruling is ruling]
 
 
 @dataclasses.dataclass(frozen=True, kw_only=True)
@@ -162,13 +167,13 @@ class GoingIn(LetterEntry):
 
     def tell_letters(self) -> None:
         own = [letter for letter in self.cases if letter.read.digest in self.own]
-        going_in = with_outcome(self.cases, LetterOutcome.GOES_IN)
+        going_in = with_ruling(self.cases, Ruling.GOES_IN)
         tell(*letter_words.going_in_words(going_in, self.vote))
-        tell(*letter_words.table(with_outcome(own, LetterOutcome.WAITS)))
-        if older := with_outcome(own, LetterOutcome.OLDER):
+        tell(*letter_words.table(with_ruling(own, Ruling.WAITS)))
+        if older := with_ruling(own, Ruling.OLDER):
             numbers = listed([*map(letter_words.name_of, older)], MOST_NAMED)
             tell(f"{say('Passed over, since a later letter of its elector went in')}: {numbers}")
-        of_others = with_outcome(self.cases, LetterOutcome.OTHER_VOTE)
+        of_others = with_ruling(self.cases, Ruling.OTHER_VOTE)
         tell(*other_votes_words(letter.other_vote for letter in of_others))
 
     def show(self) -> None:
@@ -203,7 +208,7 @@ def what_goes_in(
 ) -> GoingIn:
     every = judged(vote, vote.history(), queries.kept_letters(vote.book), previewed or ())
     cases = [letter for letter in every if letter.read.link or not of_box]
-    new = with_outcome(cases, LetterOutcome.GOES_IN)
+    new = with_ruling(cases, Ruling.GOES_IN)
     return GoingIn(
         "add",
         {"letters": len(new), "lines": len(new)},

@@ -1,10 +1,9 @@
 """What the close of a vote with tellers puts into the urn: clicks and slips, sealed alike."""
 
-from collections.abc import Iterable, Iterator, Mapping
+from collections.abc import Iterator, Sequence
 
 from debvote_tools.book import queries
 from debvote_tools.book.book import Detail
-from debvote_tools.book.queries import CountingBallot
 from debvote_tools.call.tellers import (
     BY_CLICK,
     FEWEST,
@@ -13,12 +12,14 @@ from debvote_tools.call.tellers import (
     SLIPS_TYPED,
     VOTED,
     first_list,
+    kept_lists,
     sealed_slips,
+    text_file,
     voted_file,
 )
 from debvote_tools.cli.console import count_of
 from debvote_tools.cli.faults import Fault, bad_words
-from debvote_tools.election import Election, Fixed, History
+from debvote_tools.election import PRIVATE, URN, Election, Fixed, History
 from debvote_tools.files import OWN, read_whole, sha256_of, write_made
 from debvote_tools.inbox.lines import lines_in, names_of
 from debvote_tools.text.ballots import ballot_file, in_normal_form
@@ -45,35 +46,23 @@ def faults_of_ballots(election: Election) -> Iterator[Fault]:
     """Clicks of which nobody may count, or so few that each would be known; no --force passes
     these.
     """
-    counting = queries.counting_ballots(election.book)
-    clicks = [ballot for ballot in counting if ballot.line.endswith(f" {BY_CLICK}")]
-    first: dict[str, CountingBallot] = {}
-    for ballot in clicks:
-        if (other := first.setdefault(ballot.block, ballot)) is not ballot:
-            yield from faults_of_equal(election, other, ballot)
+    clicks = queries.counting_clicks(election.book, BY_CLICK)
+    first: dict[str, queries.Click] = {}
+    for click in clicks:
+        # of two who have sent the same sealed ballot the later one copied it
+        if (other := first.setdefault(click.block, click)) is not click:
+            words = f"{other.elector} and {click.elector} have sent the same sealed ballot, {click.elector} later"
+            strike = election.command("strike", str(click.envelope), "--because", "TEXT")
+            yield Fault(None, words, f"run {strike}, and ask {click.elector} to vote again")
+    # other places pass such a click over; here its elector would vote twice
     on_paper = queries.electors_with(election.book, ON_PAPER)
-    if strange := [one for one in clicks if not one.block or one.elector in on_paper]:
-        names = ", ".join(ballot.elector for ballot in strange)
-        numbers = ", ".join(str(ballot.envelope) for ballot in strange)
-        words = f"these have a click that no page has sealed, or one beside a slip: {names}"
+    if twice := [click for click in clicks if click.elector in on_paper]:
+        words = f"these have a click beside a slip: {', '.join(click.elector for click in twice)}"
+        numbers = ", ".join(str(click.envelope) for click in twice)
         yield Fault(None, words, f"strike envelopes {numbers}")
     if len(clicks) < FEWEST:
         words = f"there are {count_of(len(clicks), 'click')}, and of fewer than {FEWEST} each may be known"
         yield Fault(None, words, FEW_CURE)
-
-
-def faults_of_equal(
-    election: Election, one: CountingBallot, other: CountingBallot
-) -> Iterator[Fault]:
-    """Two electors have sent the same sealed ballot, of whom the later one copied it."""
-    kept = queries.kept_blocks(election.book)
-    senders = [record.elector for record in kept if record.block == one.block]
-    # of one whose time nobody knows the other is the earlier one
-    places = {elector: place for place, elector in reversed([*enumerate(senders)])}
-    earlier, later = sorted((one, other), key=lambda it: places.get(it.elector, len(senders)))
-    words = f"{earlier.elector} and {later.elector} have sent the same sealed ballot, {later.elector} later"
-    strike = election.command("strike", str(later.envelope), "--because", "TEXT")
-    yield Fault(None, words, f"run {strike}, and ask {later.elector} to vote again")
 
 
 def words_before_close(election: Election, history: History) -> Iterator[str]:
@@ -109,17 +98,18 @@ def slips_in(election: Election, file: str | None) -> list[str]:
         words = f"these lines are not the ranks of a slip: {', '.join(wrong)}"
         cure = f"write {len(poll.names)} ranks, as 2,1,-, or - if it is spoilt"
         raise bad_words(file, words, cure)
-    ranks = (line.decode().partition(" ")[2] for line in lines)
-    return [SPOILT if text == SPOILT else in_normal_form(one) for text, one in zip(texts, ranks)]
+    return [in_normal_form(line.decode().partition(" ")[2]) for line in lines]
 
 
-def demand_slips(slips: Iterable[str], checked_off: int) -> None:
+def demand_slips(slips: Sequence[str], checked_off: int) -> None:
     """Stops unless there is a slip for each who is checked off as voting on paper, and none of
     them, or so many that none is known.
     """
-    slips = [*slips]
     if len(slips) != checked_off:
-        words = f"{count_of(checked_off, 'elector is', 'electors are')} checked off as voting on paper, and there are {count_of(len(slips), 'slip')}"
+        words = (
+            f"{count_of(checked_off, 'elector is', 'electors are')} checked off as voting on "
+            f"paper, and there are {count_of(len(slips), 'slip')}"
+        )
         cure = "give a file with a line for each slip, --paper FILE, and count both again"
         raise Fault("--paper", words, cure)
     unspoilt = len(slips) - slips.count(SPOILT)
@@ -131,47 +121,39 @@ def demand_slips(slips: Iterable[str], checked_off: int) -> None:
 
 
 # ---- the urn
-def filled(election: Election, history: History, paper: str | None) -> dict[str, bytes]:
-    """What the close seals: the first list, who has voted, and the numbers of slips."""
+def filled(
+    election: Election, history: History, paper: str | None
+) -> tuple[dict[str, bytes], Fixed, Detail]:
+    """What the close seals, the first list, who has voted, and the numbers of slips; what it fixes;
+    and what its act says of it, how many ballots came in each way.
+    """
     public = election.decided
-    counting = queries.counting_ballots(election.book)
-    blocks = [ballot.block for ballot in counting if ballot.line.endswith(f" {BY_CLICK}")]
+    tellers = history.tellers
+    clicks = queries.counting_clicks(election.book, BY_CLICK)
+    counting = queries.what_counts(election.book)
     slips = slips_in(election, paper)
-    demand_slips(slips, len(counting) - len(blocks))
+    demand_slips(slips, len(counting) - len(clicks))
     unspoilt = [ranks for ranks in slips if ranks != SPOILT]
-    sealed = sealed_slips(public[""], public.mark, history.tellers, unspoilt)
+    sealed = sealed_slips(public, tellers, unspoilt)
+    blocks = [*(click.block for click in clicks), *sealed.values()]
+    in_list = first_list(public.name, public.mark, tellers, blocks)
+    voted = voted_file(counting)
     # by ranks, so that slips can be numbered for a recount
-    numbered = sorted(sealed, key=lambda line: line.split(" ")[::-1])
-    return {
-        LIST_0: first_list(public.name, public.mark, history.tellers, [*blocks, *sealed.values()]),
-        VOTED: voted_file(dict(ballot.line.split(" ", 1) for ballot in counting)),
-        SLIPS_TYPED: "".join(f"{line}\n" for line in numbered).encode(),
+    typed = text_file(sorted(sealed, key=lambda line: line.split(" ")[::-1]))
+    detail: Detail = {
+        "clicks": len(clicks),
+        "slips": len(sealed),
+        "spoilt": len(slips) - len(sealed),
+        "voted": sha256_of(voted),
     }
+    fixed = Fixed(len(blocks), sha256_of(in_list))
+    return {LIST_0: in_list, VOTED: voted, SLIPS_TYPED: typed}, fixed, detail
 
 
-def detail_of(sealed: Mapping[str, bytes]) -> Detail:
-    """What the act of the close says of it: how many ballots came in each way."""
-    if not sealed:
-        return {}
-    voted = sealed[VOTED]
-    slips = sealed[SLIPS_TYPED].count(b"\n")
-    spoilt = voted.count(b" paper\n") - slips
-    clicks = voted.count(b" click\n")
-    return {"clicks": clicks, "slips": slips, "spoilt": spoilt, "voted": sha256_of(voted)}
-
-
-def fixed_by(sealed: Mapping[str, bytes]) -> Fixed:
-    detail = detail_of(sealed)
-    return Fixed(detail["clicks"] + detail["slips"], sha256_of(sealed[LIST_0]))
-
-
-def write_sealed(election: Election, close: int) -> None:
-    """Writes what a close has sealed into its folders."""
-    for name in (LIST_0, VOTED, SLIPS_TYPED):
-        file = election.path(name)
-        write_made(file.parent, {file.name: queries.sealed(election.book, name, close)}, OWN)
-
-
-def voted_words(election: Election, history: History) -> Iterator[str]:
-    yield f"Checksum of {VOTED}: {history.closes[-1].detail['voted']}"
-    yield f"Give {election.path(VOTED)} to the tellers and the meeting alone."
+def write_sealed(election: Election, history: History) -> None:
+    """Writes the lists until now, and what the close has sealed beside the first one."""
+    book = election.book
+    files = kept_lists(book, history) | {"voted.txt": queries.sealed(book, VOTED)}
+    write_made(election.path(URN), files, OWN)
+    typed = queries.sealed(book, SLIPS_TYPED)
+    write_made(election.path(PRIVATE), {"paper.txt": typed}, OWN)

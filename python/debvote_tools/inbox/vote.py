@@ -1,43 +1,25 @@
-"""The vote, as debvote is asked about its lines, and what is printed about them."""
+"""The vote, as debvote is asked about its lines."""
 
-import collections
 import functools
-import itertools
 import re
-import textwrap
-from collections.abc import Collection, Iterable, Iterator, Mapping, Sequence
+from collections.abc import Iterable, Iterator, Mapping, Sequence
 from typing import NamedTuple
 
 from debvote_tools.book import queries
 from debvote_tools.book.queries import Envelope
 from debvote_tools.call.box import without_links
 from debvote_tools.call.tellers import ON_PAPER, PAPER
-from debvote_tools.cli.console import (
-    LEAVING_OUT,
-    count_of,
-    count_of_lines,
-    cut,
-    hides,
-    in_runs,
-    private,
-    say,
-    say_number,
-    shown_line,
-)
+from debvote_tools.cli.console import LEAVING_OUT, shown_line
 from debvote_tools.cli.faults import Fault
 from debvote_tools.debvote import Finding, Findings
 from debvote_tools.election import Election, History
 from debvote_tools.files import BALLOTS_LIMIT, LINES_LIMIT
 from debvote_tools.grouping import grouped
 from debvote_tools.inbox.lines import RIGHT_ANSWERS, Line, Names, name_in, names_of, with_small_name
-from debvote_tools.poll.codes import has_code
 from debvote_tools.text.ballots import Ballot, ballot_file, ballot_of, part_of, ranks_by_label
-from debvote_tools.text.language import ENGLISH, SPOKEN, marked
+from debvote_tools.text.language import ENGLISH, SPOKEN
 from debvote_tools.text.motions import ABSTAIN, words_in
 
-# the cure where lines look like a table
-IN_ORDER = "write each line as a name and its ranks in the order of the options"
-IS_CODE = " (32 digits, as in a code or an alias: a ballot has only the elector's name, and nobody may see a code)"
 
 # what is said of a line that is no ballot of several answers; debvote is not asked about it
 NO_FORM = Finding(
@@ -59,11 +41,6 @@ WITHOUT_LABEL = "a ballot here is a name and its ranks, without a label"
 
 # the reply to a line that came after the close
 LATE_REPLY = "late"
-
-# how many answers of ballots to several questions are said in words at once
-MOST_ANSWERS = 40
-# in characters: what is told of the options beside a ballot line
-MOST_OF_OPTIONS = 600
 
 # the number that makes a name different from others
 NUMBER = re.compile(r"-\d+\Z")
@@ -237,7 +214,7 @@ class Vote:
         never entered.
         """
         why = f"it has the name of {ENGLISH.joined(list(unclear))}" if unclear else ""
-        if self.has_tellers and not is_check_off(meant):
+        if self.has_tellers and meant.partition(b" ")[2] != ON_PAPER.encode():
             yield CheckedLine(line, meant, line.unframed, NO_CHECK_OFF, NO_CHECK_OFF)
             return
         # as it came, such a line is no ballot
@@ -326,14 +303,6 @@ class Vote:
             for part in in_parts(asked[first:])
         )
 
-    def cure_by_reason(self, source: str, lines: Iterable[CheckedLine]) -> str:
-        """The cure where lines are no ballots, or look like a table: it names the first that is
-        none, since a wrong name there may be all that is wrong.
-        """
-        refused = next(line for line in lines if not line.is_ballot)
-        shown = f"{refused.original.where}: {self.in_words(refused)}"
-        return f"look at {source} ({shown}), and {IN_ORDER}"
-
     def as_asked(self, line: CheckedLine) -> bytes:
         """A line as debvote is asked whether it is one of a table: a ballot as it is meant, another
         line as it came. A word of a motion counts as a rank, but is none of the ranks of a head.
@@ -367,125 +336,15 @@ class Vote:
                 findings = self.election.debvote.findings(poll.as_bytes(), ballots)
                 yield label, [line for line, _ in parts], findings
 
-    def other_names(self, offered: Sequence[str]) -> list[str]:
-        """All names that fit as well as those that debvote offers: `ada-2` beside `ada`."""
-        bare_names = dict.fromkeys(NUMBER.sub("", near) for near in offered)
-        alike = (name for bare in bare_names for name in self.names_by_bare_name[bare])
-        return [name for name in alike if name not in offered]
-
     @functools.cached_property
     def names_by_bare_name(self) -> dict[str, list[str]]:
         return grouped((NUMBER.sub("", name), name) for name in self.questions.roll)
-
-    # ---- words
-    def report_of_lines(
-        self, lines: Sequence[CheckedLine], numbers: Iterable[int], replies: Sequence[str]
-    ) -> Iterator[str]:
-        """Each line that went in, or would, by the number of its envelope and the reply to it."""
-        are_many = self.are_many(line.ballot for line in lines if line.is_ballot)
-        for number, reply, line in zip(numbers, replies, lines):
-            yield from change_words(line)
-            yield f"{number} {reply}  {self.in_words(line, reply, is_short=are_many)}"
-            if (other := line.lasting) and other != line.finding:
-                written = f"written as `{shown_line(line.as_meant)}` it is refused too"
-                yield f"  it goes in as it came; {written}: {other.word}: {private(other.hint)}"
-        if are_many:
-            yield self.show_words
-        if not all(line.is_ballot for line in lines):
-            yield self.right_words()
-        if LATE_REPLY in replies:
-            late = count_of(replies.count(LATE_REPLY), "line")
-            yield f"{late} came after the close, and late lines do not count."
-
-    def in_words(self, line: CheckedLine, reply: str = "", *, is_short: bool = False) -> str:
-        """A ballot in words, or in short as it is entered; or the line and why debvote refuses
-        it.
-        """
-        if line.finding is None:
-            return self.ballot_in_words(line.ballot, is_short=is_short)
-        word = "" if line.finding.word == reply else f"{line.finding.word}: "
-        # so that nobody takes one elector for another
-        others = self.other_names(line.finding.near)
-        why = f"{line.finding.hint}{f' (or {ENGLISH.joined(others)})' if others else ''}"
-        is_code = has_code(line.as_meant.decode("utf-8", "replace")) and not self.has_codes
-        # a name alone is told
-        said = why if line.finding.near else private(why)
-        return f"{shown_line(line.as_entered)}: {word}{said}{IS_CODE if is_code else ''}"
-
-    def with_answers(
-        self, words: str, answers: str, indent: str = "  ", *, is_short: bool = False
-    ) -> str:
-        """Words, and behind them a ballot in words, or in short as it is entered, unless it is
-        private. Of several questions each answer has a line of its own.
-        """
-        if hides():
-            return words
-        if is_short:
-            return f"{words}: {answers}"
-        said = self.in_words_of(answers)
-        return (
-            f"{words}:\n{textwrap.indent(said, indent)}" if self.is_several else f"{words}: {said}"
-        )
-
-    def ballot_in_words(self, ballot: Ballot, *, is_short: bool = False) -> str:
-        return self.with_answers(ballot.elector, ballot.answers, is_short=is_short)
-
-    def are_many(self, ballots: Iterable[Ballot]) -> bool:
-        """Whether ballots of several questions have more lines in words than are read at once."""
-        return self.is_several and sum(len(ballot.ranks) for ballot in ballots) > MOST_ANSWERS
-
-    @property
-    def show_words(self) -> str:
-        """What is said below ballots in short."""
-        return f"{say('Each in words')}: {self.election.command('show', 'NAME')}"
-
-    @property
-    def right_line(self) -> str:
-        name = "CODE" if self.has_codes else "NAME" if hides() else self.questions.roll[0]
-        if self.has_tellers:
-            return f"{name} {PAPER}"
-        right = self.questions.line(name, turned_rank)
-        part = part_of(right.encode(), self.label)
-        return right if part is None else part.decode()
-
-    def right_words(self) -> str:
-        """A ballot line with what each rank is of, as `explain` has it."""
-        if self.has_tellers:
-            words = marked(
-                "Type `{line}` for each who votes on paper; the page alone seals ballots."
-            )
-            return say(words, self.right_line)
-        polls = {"": self.poll} if self.poll else self.questions
-        options = "; ".join(
-            f"{label} {numbered(poll.names)}".strip() for label, poll in polls.items()
-        )
-        ranks_of = say("the ranks of {options}; 1 is the best", cut(options, MOST_OF_OPTIONS))
-        words = f"{say('A ballot line of this poll')}: `{self.right_line}`: {ranks_of}"
-        return words if self.poll else f"{words}; {say('a question may be left out')}"
-
-
-def is_check_off(line: bytes) -> bool:
-    """Whether a line says that its elector voted on paper, and nothing else."""
-    return line == b"%b %b" % (name_in(line), ON_PAPER.encode())
-
-
-def numbered(names: Iterable[str]) -> str:
-    return ", ".join(f"{number} {name}" for number, name in enumerate(names, start=1))
-
-
-def turned_rank(number: int, options: int) -> str:
-    """The rank of an option in a ballot that ranks the last one first: with the numbers as ranks,
-    who takes them for an order of choice sees no fault.
-    """
-    return str(number % options + 1)
 
 
 # what is said of an answer that is the first one, or another one, of its elector to its question.
 # Here it has replaced the earlier one; in the view `fate` it is the earlier one that is replaced
 COUNTED = "counted"
 REPLACED = "replaced"
-# the same of a ballot of which the answers differ
-IN_PART = marked("replaced in part")
 
 
 def replies_to(
@@ -510,11 +369,6 @@ def replies_to(
         before.update(labels)
 
 
-def envelope_words(numbers: Collection[int]) -> str:
-    """Some envelopes, in their order, as `envelope 3` or `envelopes 3-5, 7`."""
-    return say_number("envelope {numbers}", "envelopes {numbers}", len(numbers), in_runs(numbers))
-
-
 def in_parts(lines: Sequence[bytes]) -> Iterator[list[bytes]]:
     """Lines in parts, each of as many as debvote takes at once."""
     part: list[bytes] = []
@@ -528,47 +382,3 @@ def in_parts(lines: Sequence[bytes]) -> Iterator[list[bytes]]:
         size += len(line) + 1
     if part:
         yield part
-
-
-def change_words(line: CheckedLine) -> Iterator[str]:
-    """What was changed of a line that is not entered as it came."""
-    came = line.original.unframed
-    meant = line.as_meant
-    if came not in (line.as_entered, meant):
-        changed = say("`{came}` was changed to `{meant}`", shown_line(came), shown_line(meant))
-        yield f"{line.original.where}: {changed}"
-
-
-def summary(replies: Sequence[str]) -> str:
-    """How many lines there are, by the replies to them; those to single answers come last."""
-    parts = [reply.split(", ") for reply in replies if ", " in reply]
-    whole = collections.Counter(reply for reply in replies if ", " not in reply)
-    listed = [f"{number} {say(reply)}" for reply, number in whole.items()]
-    if parts:
-        answers = sorted(collections.Counter(itertools.chain(*parts)).items())
-        of_answers = ", ".join(f"{answer} {number}" for answer, number in answers)
-        listed.append(f"{len(parts)} {say(IN_PART)}: {of_answers}")
-    return count_of_lines(len(replies)) + (f" ({', '.join(listed)})" if listed else "")
-
-
-def standing_words(
-    vote: Vote, before: dict[str, str], after: dict[str, str], none: str
-) -> list[str]:
-    """Whose ballot is another one afterwards, or is gone (`none`); with codes only how many."""
-    changed = {
-        name: after.get(name) for name, answers in before.items() if after.get(name) != answers
-    }
-    gone = list(changed.values()).count(None)
-    if vote.has_codes:
-        of_gone, of_others = (
-            say_number("{number} elector", "{number} electors", number)
-            for number in (gone, len(changed) - gone)
-        )
-        counts = f"  {of_gone}: {none}; {of_others}: {say('an earlier ballot')}"
-        return [counts] if changed else []
-    return [
-        vote.with_answers(f"  {name}, {say('as before')}", answers, "    ")
-        if answers
-        else f"  {name}: {none}"
-        for name, answers in changed.items()
-    ]

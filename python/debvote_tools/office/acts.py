@@ -1,12 +1,12 @@
 """The form of a command, made from its own options: each of `debvote-election` has one."""
 
-import dataclasses
 import importlib
 from collections.abc import Iterator, Mapping, Sequence
-from typing import Any
+from typing import Any, NamedTuple
 
 from debvote_tools.cli.console import say
 from debvote_tools.commands.command_line import COMMANDS, PHASES
+from debvote_tools.office.visit import Refused
 
 # what is a page of its own
 APART = ("desk", "new")
@@ -17,18 +17,28 @@ NO_FIELD = ("yes", "moved")
 PASTED = ("paper", "lists")
 
 
-@dataclasses.dataclass(frozen=True)
-class Field:
-    """An option of a command as a field of a form."""
+class Field(NamedTuple):
+    """An option of a command as a field of a form; `how` is what its parser has of it."""
 
     name: str
-    option: str
     help: str
-    metavar: str
-    choices: Sequence[str]
-    is_flag: bool
-    is_several: bool
-    is_positional: bool
+    how: Mapping[str, Any]
+
+    @property
+    def option(self) -> str:
+        return str(self.how.get("name", f"--{self.name.replace('_', '-')}"))
+
+    @property
+    def is_positional(self) -> bool:
+        return "is_positional" in self.how
+
+    @property
+    def is_flag(self) -> bool:
+        return self.how.get("action") == "store_true"
+
+    @property
+    def is_several(self) -> bool:
+        return self.how.get("action") == "append" or self.how.get("nargs") == "*"
 
     @property
     def is_pasted(self) -> bool:
@@ -36,10 +46,10 @@ class Field:
 
     def words(self, given: Sequence[str]) -> list[str]:
         """What would be typed; each value is part of its option, so that none reads as another."""
-        values = [
+        lines = [
             line for text in given for line in (text.split("\n") if self.is_several else [text])
         ]
-        values = [value.strip() for value in values if value.strip()]
+        values = [line.strip() for line in lines if line.strip()]
         if self.is_positional:
             return values
         if self.is_flag:
@@ -47,8 +57,7 @@ class Field:
         return [f"{self.option}={value}" for value in values]
 
 
-@dataclasses.dataclass(frozen=True)
-class Form:
+class Form(NamedTuple):
     name: str
     help: str
     fields: Sequence[Field]
@@ -62,34 +71,25 @@ class Form:
         options = list[str]()
         others = list[str]()
         for field in self.fields:
-            words = field.words(given.get(field.name, ()))
-            (others if field.is_positional else options).extend(words)
+            words = others if field.is_positional else options
+            words += field.words(given.get(field.name, ()))
         return [self.name, *options, *(["--", *others] if others else [])]
 
 
 def form_of(name: str) -> Form:
-    module = importlib.import_module(f"debvote_tools.commands.{name}")
-    run = getattr(module, name)
-    kind = run.__annotations__["arguments"]
-    return Form(name, say(" ".join(run.__doc__.split())), list(fields_of(kind)))
+    if name not in COMMANDS or name in APART:
+        raise Refused()
+    run = getattr(importlib.import_module(f"debvote_tools.commands.{name}"), name)
+    fields = fields_of(run.__annotations__["arguments"])
+    return Form(name, say(" ".join(run.__doc__.split())), list(fields))
 
 
 def fields_of(kind: type) -> Iterator[Field]:
     for owner in kind.__mro__:
-        for field in owner.__dict__.get("__annotations__", {}):
-            if field in NO_FIELD:
-                continue
-            how: dict[str, Any] = owner.__dict__[field]
-            yield Field(
-                field,
-                how.get("name", f"--{field.replace('_', '-')}"),
-                say(how["help"]),
-                how.get("metavar") or "",
-                list(map(str, how.get("choices") or ())),
-                how.get("action") == "store_true",
-                how.get("action") == "append" or how.get("nargs") == "*",
-                bool(how.get("is_positional")),
-            )
+        for name in owner.__dict__.get("__annotations__", {}):
+            if name not in NO_FIELD:
+                how = owner.__dict__[name]
+                yield Field(name, say(how["help"]), how)
 
 
 def phases() -> dict[str, list[Form]]:
@@ -97,7 +97,3 @@ def phases() -> dict[str, list[Form]]:
         phase: [form_of(name) for name in names.split() if name not in APART]
         for phase, names in PHASES.items()
     }
-
-
-def is_command(name: str) -> bool:
-    return name in COMMANDS and name not in APART

@@ -17,17 +17,35 @@ PROGRAM = "debvote-office"
 
 
 def parser() -> argparse.ArgumentParser:
-    text = "Shows an election as a page on this computer, from which its commands are run."
-    made = arguments.Parser(prog=PROGRAM, description=text)
+    made = arguments.Parser(
+        prog=PROGRAM,
+        description="Shows an election as a page on this computer, from which its commands are run.",
+    )
     arguments.add_version(made)
-    text = "The folder of the election (default: the page asks for it, or makes one)"
-    made.add_argument("folder", metavar="FOLDER", nargs="?", help=text)
-    text = "The language of the page: de, en, es or fr (default: that of the election)"
-    made.add_argument("--language", metavar="CODE", choices=sorted(LANGUAGES), help=text)
-    text = "The port on this computer (default: any that is free)"
-    made.add_argument("--port", metavar="N", type=int, default=0, help=text)
-    text = "Print the address of the page, and open no browser"
-    made.add_argument("--no-browser", action="store_true", help=text)
+    made.add_argument(
+        "folder",
+        metavar="FOLDER",
+        nargs="?",
+        help="The folder of the election (default: the page asks for it, or makes one)",
+    )
+    made.add_argument(
+        "--language",
+        metavar="CODE",
+        choices=sorted(LANGUAGES),
+        help="The language of the page: de, en, es or fr (default: that of the election)",
+    )
+    made.add_argument(
+        "--port",
+        metavar="N",
+        type=int,
+        default=0,
+        help="The port on this computer (default: any that is free)",
+    )
+    made.add_argument(
+        "--no-browser",
+        action="store_true",
+        help="Print the address of the page, and open no browser",
+    )
     return made
 
 
@@ -43,7 +61,7 @@ def main(program_folder: pathlib.Path) -> int:
             try:
                 office.open(pathlib.Path(words.folder))
             except state.Taken as taken:
-                return show_other(taken.page)
+                return show_other(str(taken))
             except Fault as fault:
                 office.fault = fault.words
         return serve(office, words.port, has_browser=not words.no_browser)
@@ -67,12 +85,10 @@ def serve(office: Office, port: int, *, has_browser: bool) -> int:
     """Runs the server, until the page or a signal ends it."""
     with Server(office, port) as server:
         office.write_page()
-        office.say_page()
         if has_browser:
             # one that runs in this terminal is waited for
-            opening = threading.Thread(target=webbrowser.open, args=[office.page.as_uri()])
-            opening.daemon = True
-            opening.start()
+            address = office.page.as_uri()
+            threading.Thread(target=webbrowser.open, args=[address], daemon=True).start()
             console.tell(
                 f"The page is open in your browser; else open {office.page} there. Ctrl-C ends it."
             )

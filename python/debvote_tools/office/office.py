@@ -8,7 +8,6 @@ import shutil
 import tempfile
 import threading
 import time
-from collections.abc import Callable
 from typing import IO
 
 from debvote_tools.election import Election
@@ -25,36 +24,28 @@ RESULT = "result"
 # a browser gets the name of this file: others see the words of programs, and no content of files
 LEADS = '<!DOCTYPE html><meta charset="utf-8"><meta http-equiv="refresh" content="0; url={}">\n'
 
-# where a command runs for a person who sees it; and in UTF-8 whatever the locale is
-ENVIRONMENT = {"DEBVOTE_OFFICE": "1", "PYTHONIOENCODING": "utf-8"}
-
-# in seconds: after so long without a request it ends, and how long it waits then for commands
+# in seconds: after so long without a request it ends
 IDLE = 12 * 60 * 60
-ENDING = 5
 
 
-class Office:
+class Office(Runs):
     def __init__(self, programs: pathlib.Path, code: str | None) -> None:
-        self.programs = programs
         # the language of the page: that which was asked for, or that of the election
-        self.code = code or "en"
+        super().__init__(programs, code or "en")
         self.is_code_given = code is not None
         self.port = 0
         self.rooms = {room: secrets.token_urlsafe(32) for room in (ALL, BIG, RESULT)}
         # what was uploaded, and the file that leads to the page, for this account alone
         self.own = pathlib.Path(tempfile.mkdtemp(prefix="debvote-office-"))
-        self.folder: pathlib.Path | None = None
+        self.page = self.own / "open.html"
         # why the folder that was named has no election
         self.fault = ""
         self.held: IO[str] | None = None
-        self.runs = Runs(programs / "debvote-election", pathlib.Path.home(), self.environment)
-        self.lock = threading.Lock()
         # one page at a time reads the book: to close a file of a database that is open elsewhere in
         # a process drops the locks that SQLite has on it
-        self.reading = threading.Lock()
+        self.reading = threading.RLock()
         self.last_request = time.monotonic()
-        # ends the server
-        self.stop: Callable[[], None] = lambda: None
+        self.is_ended = False
 
     @property
     def host(self) -> str:
@@ -63,27 +54,10 @@ class Office:
     def address(self, room: str = ALL) -> str:
         return f"http://{self.host}/{self.rooms[room]}/"
 
-    @property
-    def page(self) -> pathlib.Path:
-        return self.own / "open.html"
-
     def write_page(self) -> None:
         handle = os.open(self.page, os.O_WRONLY | os.O_CREAT | os.O_EXCL, 0o600)
         with open(handle, "w", encoding="utf-8") as file:
             file.write(LEADS.format(self.address()))
-
-    def environment(self) -> dict[str, str]:
-        """That of a command, which speaks the language of the page."""
-        return {**ENVIRONMENT, "DEBVOTE_LANGUAGE": self.code}
-
-    def kept(self, given: str, data: bytes) -> pathlib.Path:
-        """Where a file lies that was uploaded, with a plain name like its own."""
-        name = pathlib.PurePath(given.replace("\\", "/")).name
-        plain = "".join(sign if sign.isalnum() or sign in "._-" else "_" for sign in name)
-        place = pathlib.Path(tempfile.mkdtemp(dir=self.own))
-        file = place / (plain.lstrip(".-")[-80:] or "letters")
-        file.write_bytes(data)
-        return file
 
     # ---- the election
     def open(self, folder: pathlib.Path) -> None:
@@ -97,17 +71,11 @@ class Office:
             with self.reading:
                 election = self.election_in(folder)
                 with contextlib.closing(election.open_book.connection):
-                    self.held = state.lock_of(folder)
+                    self.held = state.lock_of(folder, self.page)
                     if not self.is_code_given:
                         self.code = election.language.code
             self.folder = folder
-            self.runs.folder = folder
         state.remember_folder(folder)
-        self.say_page()
-
-    def say_page(self) -> None:
-        if self.held and self.port:
-            state.say_page(self.held, self.page)
 
     def election_in(self, folder: pathlib.Path) -> Election:
         """An election, whose doubts the page shows, and nothing says on standard error."""
@@ -117,12 +85,12 @@ class Office:
 
     # ---- its end
     @property
-    def is_idle(self) -> bool:
-        return time.monotonic() - self.last_request > IDLE
+    def is_over(self) -> bool:
+        return self.is_ended or time.monotonic() - self.last_request > IDLE
 
     def close(self) -> None:
         """Interrupts what runs, and removes what was uploaded."""
-        self.runs.end(ENDING)
+        self.end()
         shutil.rmtree(self.own, ignore_errors=True)
         if self.held:
             self.held.close()

@@ -1,25 +1,15 @@
 """What each page shows. A reading starts no command, and changes nothing."""
 
+import pathlib
 import re
 from collections.abc import Callable, Mapping
 
 from debvote_tools.cli.faults import Fault
 from debvote_tools.files import read_at_most
 from debvote_tools.office import acts, desks, drafts, letters, own_programs, state, views
-from debvote_tools.office.office import ALL, BIG, RESULT
-from debvote_tools.office.runs import Run, lines_of
-from debvote_tools.office.views import Values
-from debvote_tools.office.visit import (
-    Answer,
-    File,
-    Page,
-    Refused,
-    See,
-    Visit,
-    first,
-    is_number,
-)
-from debvote_tools.text.language import LANGUAGES
+from debvote_tools.office.office import BIG, RESULT
+from debvote_tools.office.visit import DESKS, PACKAGE, Answer, Refused, Visit, first, number_in
+from debvote_tools.text.rendering import resources
 
 KINDS = {
     ".html": "text/html",
@@ -28,11 +18,14 @@ KINDS = {
     ".svg": "image/svg+xml",
     ".json": "application/json",
 }
+POLICY = "Content-Security-Policy"
 # of a published page, which has a policy of its own beside it, and of what is to be printed: both
 # are no pages of the office, and cannot post to it. What is below the secret of the office has no
 # script, which would read its own address
-RESULT_POLICY = "sandbox allow-scripts allow-downloads; frame-ancestors 'none'"
-PRINT_POLICY = "sandbox; default-src 'none'; style-src 'unsafe-inline'; frame-ancestors 'none'"
+OF_RESULT = {POLICY: "sandbox allow-scripts allow-downloads; frame-ancestors 'none'"}
+PRINTED_ONLY = {
+    POLICY: "sandbox; default-src 'none'; style-src 'unsafe-inline'; frame-ancestors 'none'"
+}
 
 # what is to be printed, by its place in the folder
 PRINTED = re.compile(
@@ -43,206 +36,142 @@ PRINTED = re.compile(
 # in bytes
 LARGEST_FILE = 64 * 1024 * 1024
 
+# what all pages load
+STYLES = ("page.css", "result/page.css", "fields.css", "call/ballot.css", "office.css")
+LOADED = {"office.css": STYLES, "office.js": ("office.js",)}
 
-def get(visit: Visit, place: str) -> Answer:
+
+def get(visit: Visit) -> Answer:
     """The answer to a reading."""
+    name = visit.route + visit.rest
+    if name in LOADED:
+        return file(name, resources(PACKAGE, *LOADED[name]).encode())
     if visit.room == RESULT:
-        return result(visit, place)
-    name, _, rest = place.partition("/")
-    pages = {BIG: {"": big}, ALL: PAGES if visit.office.folder else {"": folders}}[visit.room]
-    if place in pages:
-        return pages[place](visit)
-    if visit.room == BIG or name not in ROOMS:
+        return result(visit, name or "index.html")
+    pages = {"": big} if visit.room == BIG else PAGES
+    if visit.route not in pages:
         raise Refused()
-    return ROOMS[name](visit, rest)
+    return pages[visit.route](visit)
 
 
-# ---- without an election
-def folders(visit: Visit) -> Answer:
-    values = {
-        "folders": state.folders(),
-        "given": first(visit.query, "folder"),
-        "done": visit.done,
-        "fault": visit.office.fault,
-        "codes": LANGUAGES,
-    }
-    return Page("folders", values)
+def file(name: str, data: bytes, heads: Mapping[str, str] = {}) -> Answer:
+    return Answer(data, KINDS.get(pathlib.PurePath(name).suffix, "text/plain"), heads=heads)
 
 
 # ---- the overview
 def overview(visit: Visit) -> Answer:
+    if visit.office.folder is None:
+        return visit.page("folders", folders=state.folders())
     values = views.state_of(visit.election)
-    return Page(
-        "state",
-        {
-            **values,
-            "own": own_programs.programs_in(visit.election),
-            "big": visit.office.address(BIG),
-            "result_page": visit.office.address(RESULT),
-            "done": visit.done,
-        },
-    )
+    return visit.page("state", **values, own=own_programs.programs_in(visit.election))
 
 
 def big(visit: Visit) -> Answer:
-    return Page("big", views.state_of(visit.election))
+    return visit.page("big", **views.state_of(visit.election))
 
 
-def result(visit: Visit, place: str) -> Answer:
+def result(visit: Visit, name: str) -> Answer:
     """A file of the folder that was published last."""
-    name = place or "index.html"
-    data = views.published_file(visit.election, visit.election.history(), name)
-    if data is None:
+    place = views.published(visit.election, visit.election.history())
+    # no other file is there, and none is named that is elsewhere
+    if place is None or place / name not in place.rglob("*") or (place / name).is_dir():
         raise Refused()
-    return File(data, kind_of(name), RESULT_POLICY)
-
-
-def kind_of(name: str) -> str:
-    return KINDS.get(name[name.rfind(".") :], "text/plain")
+    return file(name, (place / name).read_bytes(), OF_RESULT)
 
 
 # ---- letters
-def letters_page(visit: Visit, rest: str) -> Answer:
-    asking = visit.asking
-    here = f"letters/{rest}" if rest else "letters"
-    # what it asks stands on its own page alone
-    if asking and asking.place != f"{here}?run={asking.number}":
-        return See(asking.place)
-    shown = {"asking": asking, "lines": lines_of(asking.said) if asking else []}
-    if not rest:
-        page = page_in(visit)
-        values = letters.letters_of(visit.election, visit.language, page)
-        own = own_programs.programs_in(visit.election)
-        done = visit.done
-        told = lines_of(done.said) if done else []
-        return Page("letters", {**values, **shown, "own": own, "done": done, "told_lines": told})
-    letter = (
-        letters.letter_of(visit.election, visit.language, int(rest)) if is_number(rest) else None
-    )
-    if letter is None:
-        raise Refused()
-    return Page("letter", {"letter": letter, **shown})
-
-
-def page_in(visit: Visit) -> int:
-    text = first(visit.query, "page")
-    return int(text) if is_number(text) else 1
+def letters_page(visit: Visit) -> Answer:
+    """The letters that wait, or one letter."""
+    asking = visit.run("run")
+    # what a command asks is on its own page alone
+    if asking and asking.place != f"{visit.route}{visit.rest}?run={asking.number}":
+        return visit.see(asking.place)
+    if visit.rest:
+        return visit.page(
+            "letter", asking=asking, **letters.letter_of(visit.election, visit.number)
+        )
+    values = letters.letters_of(visit.election, number_in(visit.query, "page"))
+    own = own_programs.programs_in(visit.election)
+    return visit.page("letters", asking=asking, own=own, **values)
 
 
 # ---- the desk
-def desk(visit: Visit, rest: str) -> Answer:
-    if not rest:
-        return See("desk/1")
-    number = number_of_desk(rest)
-    run = visit.office.runs.desks.get(number)
+def desk(visit: Visit) -> Answer:
+    if not visit.rest:
+        return visit.see("desk/1")
+    run = visit.office.desks.get(visit.desk)
     if run:
         visit.wait(run)
-    values = desks.desk_of(visit.election, run)
-    language = visit.election.language
-    names = {one: state.desk_name(visit.folder, one, language) for one in desks.DESKS}
-    return Page(
-        "desk",
-        {
-            **values,
-            "run": run,
-            "prompt": run.prompt if run else None,
-            "desk": number,
-            "name": names[number],
-            "names": names,
-            "is_lost": "lost" in visit.query,
-        },
-    )
-
-
-def number_of_desk(text: str) -> int:
-    if not (is_number(text) and int(text) in desks.DESKS):
-        raise Refused()
-    return int(text)
+    names = {one: state.desk_name(visit.election, one) for one in DESKS}
+    return visit.page("desk", run=run, names=names, **desks.desk_of(visit.election, run))
 
 
 # ---- roll and draft
 def roll(visit: Visit) -> Answer:
-    return Page("roll", views.roll_of(visit.election, first(visit.query, "find"), page_in(visit)))
+    find = first(visit.query, "find")
+    page = number_in(visit.query, "page")
+    return visit.page("roll", find=find, **views.roll_of(visit.election, find, page))
 
 
 def draft(visit: Visit) -> Answer:
-    more: Values = {"changed": [], "done": visit.done}
-    return Page("draft", {**drafts.draft_of(visit.election), **more})
+    return visit.page("draft", changed=[], **drafts.draft_of(visit.election))
 
 
 # ---- commands
 def all_commands(visit: Visit) -> Answer:
-    prints = views.prints_of(visit.election)
-    return Page("all", {"phases": acts.phases(), "prints": prints, "runs": visit.office.runs.all})
+    return visit.page("all", phases=acts.phases(), prints=views.prints_of(visit.election))
 
 
-def do(visit: Visit, rest: str) -> Answer:
-    if not acts.is_command(rest):
-        raise Refused()
-    command = acts.form_of(rest)
-    again = visit.run(first(visit.query, "again"))
-    values = {
-        "command": command,
-        "given": again.task.given if again else visit.query,
+def do(visit: Visit) -> Answer:
+    command = acts.form_of(visit.rest)
+    again = visit.run("again")
+    return visit.page(
+        "do",
+        command=command,
+        given=again.task.given if again else visit.query,
         # without tellers nobody types slips or lists
-        "is_pasting": bool(command.pasted and visit.election.history().tellers),
-    }
-    return Page("do", values)
+        is_pasting=bool(command.pasted and visit.election.history().tellers),
+    )
 
 
-def run(visit: Visit, rest: str) -> Answer:
+def run(visit: Visit) -> Answer:
     """What a command wrote, and what it asks; or the page that shows that at this moment."""
-    shown = visit.run_of(rest)
+    shown = visit.own_run
     visit.wait(shown)
     if shown.place != f"run/{shown.number}":
-        return See(shown.place)
+        return visit.see(shown.place)
     if shown.words[0] == "desk":
         raise Refused()
-    lines = [line for one in row_of(shown) for line in lines_of(one.said)]
-    prompt = shown.prompt
     is_over = shown.status is not None
+    page = visit.page("run", run=shown, prompt=shown.prompt, previews_of=views.previews_of)
     if is_over and shown.words[0] == "show" and visit.election.questions.is_secret:
         shown.said = ""
-    values = {
-        "run": shown,
-        "lines": lines,
-        "prompt": prompt,
-        "refreshes": not (prompt or is_over),
-    }
-    if shown.words[0] == "check":
-        values |= views.previews_of(visit.election)
-    return Page("run", values)
+    return page
 
 
-def row_of(run: Run) -> list[Run]:
-    """What ran before it in its row, and it."""
-    return [*(row_of(run.before) if run.before else []), run]
-
-
-def printed(visit: Visit, rest: str) -> Answer:
+def printed(visit: Visit) -> Answer:
     """What was made to be printed, or looked at before the call, as it is."""
-    if not PRINTED.fullmatch(rest):
+    if not PRINTED.fullmatch(visit.rest):
         raise Refused()
     try:
-        data = read_at_most(visit.election.path(rest), LARGEST_FILE)
+        data = read_at_most(visit.election.path(visit.rest), LARGEST_FILE)
     except FileNotFoundError:
         raise Refused() from None
     except OSError as error:
-        raise Fault(rest, error.strerror, "make it again with its command") from None
-    return File(data, kind_of(rest), PRINT_POLICY)
+        raise Fault(visit.rest, error.strerror, "make it again with its command") from None
+    return file(visit.rest, data, PRINTED_ONLY)
 
 
 PAGES: Mapping[str, Callable[[Visit], Answer]] = {
     "": overview,
+    "letters": letters_page,
+    "letters/": letters_page,
+    "desk": desk,
+    "desk/": desk,
     "roll": roll,
     "draft": draft,
     "all": all_commands,
-}
-# those of which there are several
-ROOMS: Mapping[str, Callable[[Visit, str], Answer]] = {
-    "letters": letters_page,
-    "desk": desk,
-    "do": do,
-    "run": run,
-    "print": printed,
+    "do/": do,
+    "run/": run,
+    "print/": printed,
 }

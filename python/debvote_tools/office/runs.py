@@ -7,7 +7,6 @@ while it asks, so one that nobody answers blocks nothing.
 
 import codecs
 import contextlib
-import functools
 import itertools
 import os
 import pathlib
@@ -18,14 +17,18 @@ import subprocess
 import sys
 import threading
 import time
-from collections.abc import Callable, Mapping, Sequence
+from collections.abc import Mapping, Sequence
 from typing import NamedTuple
 
 from debvote_tools.cli.console import ASKED, ASKS, IS_ASKED, written
 from debvote_tools.cli.faults import Fault, Status
 
-# in seconds: how long a desk may take to begin
+# where a command runs for a person who sees it; and in UTF-8 whatever the locale is
+ENVIRONMENT = {"DEBVOTE_OFFICE": "1", "PYTHONIOENCODING": "utf-8"}
+
+# in seconds: how long a desk may take to begin, and commands to end with the office
 START = 10
+ENDING = 5
 # how much is kept of what a command writes, in characters, and how many commands that have ended
 MOST = 200_000
 RUNS = 50
@@ -50,81 +53,67 @@ class Prompt(NamedTuple):
 
     number: int
     kind: str
-    text: str
-
-    @property
-    def words(self) -> str:
-        return self.text.removesuffix(YES_OR_NO).strip()
-
-
-class Place(NamedTuple):
-    """The pages, beside its own, that show what a command asks, and what it has done well; that of
-    the overview is empty.
-    """
-
-    asks: str | None = None
-    done: str | None = None
+    words: str
 
 
 class Task(NamedTuple):
-    """What is run: a command, or a program of the secretary. `needs` says whether what comes after
-    it is only done if it ended well.
+    """What is run: a command, or a program of the secretary. `asks` and `done` are the pages,
+    beside its own, that show what it asks, and what it has done well; that of the overview is
+    empty. `needs` says whether what comes after it is only done if it ended well.
     """
 
     words: Sequence[str]
-    places: Place = Place()
+    asks: str | None = None
+    done: str | None = None
     is_own: bool = False
     needs: bool = True
-    # the folders of what was uploaded for it, which are removed at its end
-    uploads: Sequence[pathlib.Path] = ()
     # what its form had: after a fault it is filled in again
     given: Mapping[str, Sequence[str]] = {}
 
 
 class Run:
-    """A command that runs, or has ended. After its end the next one of a row begins; `before` is
-    the one before it.
+    """The first of some tasks, which runs, or has ended. After its end the next one begins, as a
+    run of its own, for which `before` is what was said before it.
     """
 
     next: "Run | None" = None
+    status: int | None = None
+    # whether the last answer was no
+    is_declined = False
+    # what it wrote since the last answer: what was decided is not kept
+    said = ""
+    prompt: Prompt | None = None
+    # the last ballot that was typed, and how many lines were entered
+    ballot = ""
+    entered = 0
 
     def __init__(
         self,
-        number: int,
-        task: Task,
-        process: subprocess.Popen[bytes],
-        next_number: Callable[[], int],
-        go_on: "Callable[[Run], Run | None]",
-        before: "Run | None",
+        office: "Runs",
+        tasks: Sequence[Task],
+        before: Sequence[str],
+        uploads: Sequence[pathlib.Path],
     ) -> None:
-        self.number = number
-        self.task = task
+        self.office = office
+        self.task, *self.rest = tasks
+        self.words = self.task.words
         self.before = before
-        self.go_on = go_on
-        self.status: int | None = None
-        # whether the last answer was no
-        self.is_declined = False
-        # what it wrote since the last answer: what was decided is not kept
-        self.said = ""
-        self.prompt: Prompt | None = None
-        # the last ballot that was typed, and how many lines were entered
-        self.ballot = ""
-        self.entered = 0
-        self.process = process
-        self.next_number = next_number
+        self.uploads = uploads
+        self.process = office.process_of(self.task)
+        self.number = next(office.numbers)
         self.changed = threading.Condition()
         threading.Thread(target=self.read, daemon=True).start()
 
     # ---- what it writes
     def read(self) -> None:
         decoder = codecs.getincrementaldecoder("utf-8")("replace")
-        output = self.process.stdout
-        assert output is not None
         unread = ""
-        while data := os.read(output.fileno(), 65_536):
-            unread = self.take(unread + decoder.decode(data))
-        output.close()
-        self.take_end(unread)
+        # at its end, also if it has not read what was typed
+        with contextlib.suppress(OSError), self.process:
+            assert self.process.stdout is not None
+            while data := os.read(self.process.stdout.fileno(), 65_536):
+                unread = self.take(unread + decoder.decode(data))
+        self.take_end(unread, self.process.wait())
 
     def take(self, text: str) -> str:
         """Takes what it wrote, and returns what may be the beginning of a question. Only commands
@@ -136,8 +125,9 @@ class Run:
                 return ""
             if found := QUESTION.search(text):
                 self.add(text[: found.start()])
-                self.prompt = Prompt(self.next_number(), found[1], found[2])
-                self.entered += len(replies_in(lines_of(self.said)))
+                words = found[2].removesuffix(YES_OR_NO).strip()
+                self.prompt = Prompt(next(self.office.questions), found[1], words)
+                self.entered += len(replies_in(self.lines))
                 text = text[found.end() :]
             whole, asks, rest = text.partition(ASKS)
             self.add(whole)
@@ -147,23 +137,27 @@ class Run:
     def add(self, text: str) -> None:
         self.said = (self.said + text)[-MOST:]
 
-    def take_end(self, unread: str) -> None:
-        status = self.process.wait()
-        for folder in self.task.uploads:
+    def take_end(self, unread: str, status: int) -> None:
+        for folder in self.uploads:
             shutil.rmtree(folder, ignore_errors=True)
         with self.changed:
             self.add(unread)
             self.prompt = None
-            if self.process.stdin is not None:
-                with contextlib.suppress(OSError):
-                    self.process.stdin.close()
-            self.next = self.go_on(self) if status == 0 or not self.task.needs else None
+            if self.rest and (status == 0 or not self.task.needs):
+                self.go_on()
             self.status = status
             self.changed.notify_all()
 
+    def go_on(self) -> None:
+        """Begins what follows; if that can't be started, its own page says so."""
+        try:
+            self.next = self.office.start(*self.rest, before=[*self.before, *self.lines])
+        except Fault as fault:
+            self.add(f"{fault.words}\n")
+
     @property
-    def words(self) -> Sequence[str]:
-        return self.task.words
+    def lines(self) -> list[str]:
+        return lines_of(self.said)
 
     @property
     def is_done(self) -> bool:
@@ -173,13 +167,12 @@ class Run:
     @property
     def place(self) -> str:
         """The page that shows it at this moment, or what has followed it."""
-        asks, done = self.task.places
         if self.next is not None:
             return self.next.place
-        if asks is not None and self.prompt:
-            return f"{asks}?run={self.number}"
-        if done is not None and self.is_done:
-            return f"{done}?done={self.number}"
+        if self.task.asks is not None and self.prompt:
+            return f"{self.task.asks}?run={self.number}"
+        if self.task.done is not None and self.is_done:
+            return f"{self.task.done}?done={self.number}"
         return f"run/{self.number}"
 
     def wait(self, seconds: float) -> None:
@@ -199,21 +192,16 @@ class Run:
                 return False
             self.prompt = None
             self.said = ""
-            self.is_declined = prompt.kind in DECLINED and text == DECLINED[prompt.kind]
+            self.is_declined = DECLINED.get(prompt.kind) == text
             if prompt.kind == "ballot":
                 self.ballot = text
-            return self.put(text)
-
-    def put(self, text: str) -> bool:
-        pipe = self.process.stdin
-        assert pipe is not None
-        try:
-            pipe.write(f"{text}\n".encode())
-            pipe.flush()
-        except OSError:
-            # it has ended meanwhile
+            assert self.process.stdin is not None
+            # it may have ended meanwhile
+            with contextlib.suppress(OSError, ValueError):
+                self.process.stdin.write(f"{text}\n".encode())
+                self.process.stdin.flush()
+                return True
             return False
-        return True
 
     def interrupt(self) -> None:
         """Ends it as an interrupt at a terminal does, with all that it has started."""
@@ -241,91 +229,73 @@ def replies_in(lines: Sequence[str]) -> list[tuple[str, str, str]]:
 
 
 class Runs:
-    """The commands that this office has started."""
+    """The commands that an office has started, in the folder of its election."""
 
-    def __init__(
-        self,
-        program: pathlib.Path,
-        folder: pathlib.Path,
-        environment: Callable[[], Mapping[str, str]],
-    ) -> None:
-        self.program = program
-        self.folder = folder
-        self.environment = environment
-        self.all = dict[int, Run]()
+    def __init__(self, programs: pathlib.Path, code: str) -> None:
+        self.programs = programs
+        # the language in which commands speak
+        self.code = code
+        self.folder: pathlib.Path | None = None
+        self.runs = dict[int, Run]()
         self.desks = dict[int, Run]()
-        self.lock = threading.Lock()
-        self.desks_lock = threading.Lock()
+        self.lock = threading.RLock()
         self.numbers = itertools.count(1)
         self.questions = itertools.count(1)
 
-    def start(self, *tasks: Task, before: Run | None = None) -> Run:
-        """Starts the first of some tasks, in a session of its own: the interrupt of a terminal
-        reaches it once, by the office. The others follow.
+    def start(
+        self, *tasks: Task, before: Sequence[str] = (), uploads: Sequence[pathlib.Path] = ()
+    ) -> Run:
+        """Starts the first of some tasks; the others follow. `uploads` are folders that are removed
+        at its end.
         """
-        task, *rest = tasks
-        process = self.process_of(task)
-        go_on = functools.partial(self.next_of, rest)
-
-        run = Run(next(self.numbers), task, process, lambda: next(self.questions), go_on, before)
-        if task.is_own:
+        run = Run(self, tasks, before, uploads)
+        if run.task.is_own:
             timer = threading.Timer(OWN_TIME, run.interrupt)
             timer.daemon = True
             timer.start()
         with self.lock:
-            self.all[run.number] = run
-            for old in [one for one in self.all.values() if one.status is not None][:-RUNS]:
-                del self.all[old.number]
+            self.runs[run.number] = run
+            for old in [one for one in self.runs.values() if one.status is not None][:-RUNS]:
+                del self.runs[old.number]
         return run
 
     def process_of(self, task: Task) -> subprocess.Popen[bytes]:
+        """A process in a session of its own: the interrupt of a terminal reaches it once, by the
+        office.
+        """
+        program = [sys.executable, str(self.programs / "debvote-election")]
+        environment = {**os.environ, **ENVIRONMENT, "DEBVOTE_LANGUAGE": self.code}
         try:
             return subprocess.Popen(
-                task.words if task.is_own else [sys.executable, str(self.program), *task.words],
-                cwd=self.folder,
+                task.words if task.is_own else [*program, *task.words],
+                cwd=self.folder or pathlib.Path.home(),
                 stdin=subprocess.DEVNULL if task.is_own else subprocess.PIPE,
                 stdout=subprocess.PIPE,
                 stderr=subprocess.STDOUT,
-                env=os.environ if task.is_own else {**os.environ, **self.environment()},
+                env=None if task.is_own else environment,
                 start_new_session=True,
             )
         except (OSError, ValueError) as error:
             cure = "install it, or name another one"
             raise Fault(task.words[0], error, cure, Status.NOT_FOUND, None) from None
 
-    def next_of(self, rest: Sequence[Task], run: Run) -> Run | None:
-        """What follows a run; if that can't be started, the page of the run says so."""
-        try:
-            return self.start(*rest, before=run) if rest else None
-        except Fault as fault:
-            run.add(f"{fault.words}\n")
-            return None
-
-    def command(self, *words: str, places: Place = Place()) -> Run:
-        return self.start(Task(words, places))
-
-    def desk(self, number: int, name: str) -> Run:
-        """The process of a desk. One that has ended is begun anew."""
-        with self.desks_lock:
+    def desk(self, number: int, name: str) -> None:
+        """Begins a desk, unless its process is there."""
+        with self.lock:
             run = self.desks.get(number)
             if run is None or run.status is not None:
-                run = self.command("desk", f"--name={name}")
+                run = self.start(Task(("desk", f"--name={name}")))
                 self.desks[number] = run
         run.wait(START)
-        return run
-
-    def waiting(self) -> list[Run]:
-        """Those that wait for an answer, but for desks."""
-        return [run for run in self.running() if run.prompt and run.words[0] != "desk"]
 
     def running(self) -> list[Run]:
         with self.lock:
-            return [run for run in self.all.values() if run.status is None]
+            return [run for run in self.runs.values() if run.status is None]
 
-    def end(self, seconds: float) -> None:
+    def end(self) -> None:
         """Interrupts all, and waits until they have ended."""
         for run in self.running():
             run.interrupt()
-        until = time.monotonic() + seconds
+        until = time.monotonic() + ENDING
         while self.running() and time.monotonic() < until:
             time.sleep(0.02)

@@ -12,8 +12,8 @@ from typing import IO, Any
 
 from debvote_tools.book.machine_note import MACHINE_ID, state_folder
 from debvote_tools.cli.faults import Fault, Status
+from debvote_tools.election import Election
 from debvote_tools.files import locked, sha256_of, write_whole
-from debvote_tools.text.language import Language
 
 # of the folders that were open the last ones are named
 MOST_FOLDERS = 20
@@ -64,15 +64,15 @@ def remember_folder(folder: pathlib.Path) -> None:
         state["folders"] = [str(folder), *others][:MOST_FOLDERS]
 
 
-def desk_name(folder: pathlib.Path, number: int, language: Language) -> str:
-    """The name of a desk, as somebody has changed it, or as receipts in this language tell it."""
-    names = kept().get("desks", {}).get(str(folder), {})
-    return str(names.get(str(number)) or language.say("Desk {number}", number=number))
+def desk_name(election: Election, number: int) -> str:
+    """The name of a desk, as somebody has changed it, or in the language of receipts."""
+    names = kept().get("desks", {}).get(str(election.folder), {})
+    return str(names.get(str(number)) or election.language.say("Desk {number}", number=number))
 
 
-def name_desk(folder: pathlib.Path, number: int, name: str) -> None:
+def name_desk(election: Election, number: int, name: str) -> None:
     with changed() as state:
-        state.setdefault("desks", {}).setdefault(str(folder), {})[str(number)] = name
+        state.setdefault("desks", {}).setdefault(str(election.folder), {})[str(number)] = name
 
 
 def digest_here(folder: pathlib.Path, data: bytes) -> str:
@@ -93,36 +93,31 @@ def agree(digest: str) -> None:
 
 # ---- one office for a folder
 class Taken(Exception):
-    """Another office has the folder; `page` is the file that opens its page, if it is known."""
-
-    def __init__(self, page: str) -> None:
-        super().__init__(page)
-        self.page = page
+    """Another office has the folder; its words are the file that opens its page, if it is known."""
 
 
-def lock_of(folder: pathlib.Path) -> IO[str]:
-    """Locks a folder for this office, as long as the file is open. Raises `Taken`."""
+def lock_of(folder: pathlib.Path, page: pathlib.Path) -> IO[str]:
+    """Locks a folder for the office of a page, as long as the file is open. Raises `Taken`."""
     place = state_folder()
     place.mkdir(mode=0o700, parents=True, exist_ok=True)
-    handle = os.open(
-        place / f"office-{sha256_of(os.fsencode(folder))[:40]}",
-        os.O_RDWR | os.O_CREAT | os.O_CLOEXEC,
-        0o600,
-    )
-    file = open(handle, "r+", encoding="utf-8")
+    lock = place / f"office-{sha256_of(os.fsencode(folder))[:40]}"
+    file = open(os.open(lock, os.O_RDWR | os.O_CREAT, 0o600), "r+", encoding="utf-8")
     until = time.monotonic() + PATIENCE
     while True:
+        file.seek(0)
         try:
             fcntl.flock(file, fcntl.LOCK_EX | fcntl.LOCK_NB)
-            file.truncate(0)
-            return file
         except BlockingIOError:
-            file.seek(0)
-            page = file.read()
-        # another one that has it may be about to say where its page is
-        if page or time.monotonic() > until:
+            other = file.read()
+        else:
+            file.truncate(0)
+            file.write(str(page))
+            file.flush()
+            return file
+        # another one that has it may be about to make its page
+        if os.path.isfile(other) or time.monotonic() > until:
             file.close()
-            raise Taken(page)
+            raise Taken(other)
         time.sleep(0.05)
 
 
@@ -132,10 +127,3 @@ def address_in(page: str) -> str:
         if found := LEADS_TO.search(pathlib.Path(page).read_text("utf-8")):
             return found[1]
     return ""
-
-
-def say_page(lock: IO[str], page: pathlib.Path) -> None:
-    """Says in the lock which file opens the page."""
-    lock.seek(0)
-    lock.write(str(page))
-    lock.flush()

@@ -1,9 +1,7 @@
 """What the pages show of the whole election: read anew for each, as commands find it."""
 
 import datetime
-import functools
 import pathlib
-import types
 from collections.abc import Mapping, Sequence
 from typing import Any
 
@@ -15,19 +13,12 @@ from debvote_tools.commands.check import SLIP
 from debvote_tools.commands.codes import SLIPS
 from debvote_tools.election import LETTERS, PRIVATE, URN, Election, History
 from debvote_tools.inbox.urn import words_before_close
+from debvote_tools.outbox import steps
 from debvote_tools.outbox.letter_folder import TO_PRINT
-from debvote_tools.outbox.steps import (
-    Now,
-    due_now,
-    file_of,
-    next_place,
-    published_place,
-    remembered,
-)
 from debvote_tools.poll.plain_names import alike
-from debvote_tools.poll.questions import Questions, place_of
+from debvote_tools.poll.questions import place_of
 from debvote_tools.result.facts import PublishedWords
-from debvote_tools.result.file_names import CHECKSUMS, SHEET
+from debvote_tools.result.file_names import SHEET
 from debvote_tools.result.page import named_in_html
 from debvote_tools.result.places import is_free, other_place
 from debvote_tools.result.why import Why
@@ -49,90 +40,55 @@ def state_of(election: Election) -> Values:
         history = election.history()
         counting = queries.what_counts(election.book)
         # letters are judged once: of many that takes longest
-        now = Now(election, history)
+        now = steps.Now(election, history)
         state = status.state_of(election, history, counting, now.pending)
         questions = election.questions if history.call else None
         if questions and questions.is_several:
             has_late = bool(state["late"])
             state["questions"] = status.questions_in(election, history, has_late=has_late)
-        dues = due_now(now)
+        dues = steps.due_now(now)
     return {
         "state": state,
         "history": history,
         "questions": questions,
-        "is_over": history.until is not None and times.now() >= history.until,
-        "doubts": [f"{doubt.file}: {doubt.reason}" for doubt in election.open_book.doubts()],
-        "results": results_of(election, history, election.decided if questions else None),
-        "result_place": published_place(election, history),
+        "steps": steps,
+        "is_early": history.ends_after(times.now()),
+        "results": results_of(election, history),
         "dues": dues,
         "notes": list(words_before_close(election, history)),
         "prints": prints_of(election),
-        **previews_of(election),
-        "has_server": remembered(history) is not None,
-        "file_of": functools.partial(file_of, election, history),
-        "next_folder": "".join(next_place(election)),
+        "previews_of": previews_of,
+        "next_preview": next_preview(election),
     }
 
 
 # ---- what was published
-def published_file(election: Election, history: History, name: str) -> bytes | None:
-    """A file of what was published last, as it was published; None if there is none, or the vote
-    was opened again.
+def published(election: Election, history: History) -> pathlib.Path | None:
+    """The folder of what was published last, if it is as it was then; None if there is none, or the
+    vote was opened again.
     """
-    place = published_place(election, history) if history.stage == "published" else None
-    if place is None or not is_named(place, name):
-        return None
-    return (place / name).read_bytes()
+    return steps.published_place(election, history) if history.stage == "published" else None
 
 
-def is_named(place: pathlib.Path, name: str) -> bool:
-    """Whether a file is one of those of which a publication has the checksums."""
-    rows = (place / CHECKSUMS).read_text().splitlines()
-    return name in (CHECKSUMS, *(row.split("  ", 1)[1] for row in rows))
-
-
-def results_of(election: Election, history: History, questions: Questions | None) -> list[Values]:
+def results_of(election: Election, history: History) -> list[tuple[Any, ...]]:
     """How each question ended by what was published last, as the page of the result draws it."""
-    results = list[Values]()
-    if questions is None:
-        return results
-    for label in ended_in(history):
-        text = published_file(election, history, place_of(label, SHEET))
-        if text is None:
-            return []
-        poll = questions[label]
-        why = Why(sheet_in(text.decode()), named_in_html(poll))
-        results.append(
-            {
-                "label": label,
-                "poll": poll,
-                "sheet": why.sheet,
-                "why": why,
-                "facts": casting_facts(history, label),
-            }
-        )
-    return results
-
-
-def ended_in(history: History) -> Mapping[str, Any]:
-    """How each question ended by the publication that holds; empty if there is none, or the vote
-    was opened again.
-    """
-    last = history.last_publication if history.stage == "published" else None
-    ended: Mapping[str, Any] = last.detail["ended"] if last else {}
-    return ended
-
-
-def casting_facts(history: History, label: str) -> types.SimpleNamespace:
-    """What the panel of a result says of a casting vote."""
+    place = published(election, history)
+    if place is None:
+        return []
     assert history.last_publication
     words = PublishedWords(**history.last_publication.detail["words"])
-    day = words.cast_on.get(label)
-    return types.SimpleNamespace(
-        label=label,
-        vote=types.SimpleNamespace(words=words),
-        cast_day=day and datetime.date.fromisoformat(day),
-    )
+    results = list[tuple[Any, ...]]()
+    for label, poll in election.decided.items():
+        sheet = sheet_in((place / place_of(label, SHEET)).read_text("utf-8"))
+        day = words.cast_on.get(label)
+        facts = {
+            "label": label,
+            "vote": {"words": words},
+            "cast_day": day and datetime.date.fromisoformat(day),
+        }
+        why = Why(sheet, named_in_html(poll))
+        results.append((label, poll, sheet, why, facts))
+    return results
 
 
 # ---- what is to be printed
@@ -149,39 +105,31 @@ def prints_of(election: Election) -> list[str]:
     return [str(file.relative_to(election.folder)) for file in files if file.is_file()]
 
 
-def previews_of(election: Election) -> Values:
-    """What the last preview has made, by its names, and the name of the next one."""
+def previews_of(election: Election) -> Mapping[str, str]:
+    """What the last preview has made, by its names."""
     folders = sorted(election.folder.glob(f"{PREVIEW}*"), key=lambda one: one.stat().st_mtime)
-    place = election.path(PREVIEW)
     return {
-        "previews": {
-            name: f"{folder.name}/{name}"
-            for folder in folders[-1:]
-            for name in PREVIEWED
-            if (folder / name).is_file()
-        },
-        "next_preview": PREVIEW if is_free(place) else other_place(place).name,
+        name: f"{folder.name}/{name}"
+        for folder in folders[-1:]
+        for name in PREVIEWED
+        if (folder / name).is_file()
     }
+
+
+def next_preview(election: Election) -> str:
+    place = election.path(PREVIEW)
+    return PREVIEW if is_free(place) else other_place(place).name
 
 
 # ---- the roll
 def roll_of(election: Election, find: str, page: int) -> Values:
     """The electors, or those whose name or address has these words."""
     status.demand_names(election)
-    history = election.history()
     words = [alike(word) for word in find.split()]
-    found = [
-        elector
-        for elector in queries.electors(election.book)
-        if not words or is_found(elector, words)
-    ]
-    counting = queries.what_counts(election.book)
+    found = [elector for elector in queries.electors(election.book) if is_found(elector, words)]
     return {
-        "history": history,
-        "find": find,
-        "number": len(found),
         **paged(found, page),
-        "has_voted": counting.keys(),
+        "has_voted": queries.what_counts(election.book).keys(),
         "shown_text": shown_text,
     }
 
@@ -192,7 +140,8 @@ def is_found(elector: queries.Elector, words: Sequence[str]) -> bool:
 
 
 def paged(rows: Sequence[Any], page: int) -> Values:
-    """The rows of a page, from 1, and how many pages there are."""
+    """The rows of a page, from 1, how many pages there are, and how many rows."""
     pages = max(1, -(-len(rows) // ROWS))
     page = min(max(1, page), pages)
-    return {"rows": rows[(page - 1) * ROWS : page * ROWS], "page": page, "pages": pages}
+    rows_here = rows[(page - 1) * ROWS : page * ROWS]
+    return {"rows": rows_here, "page": page, "pages": pages, "number": len(rows)}

@@ -1,19 +1,30 @@
 """A request, and what answers it."""
 
+import contextlib
 import dataclasses
 import functools
-import http
 import pathlib
+import re
+import tempfile
 from collections.abc import Mapping, Sequence
+from http import HTTPStatus
 from typing import Any, NamedTuple
 
+import jinja2
+
+from debvote_tools.call.tellers import ON_PAPER
 from debvote_tools.election import Election
+from debvote_tools.office import runs
 from debvote_tools.office.office import Office
-from debvote_tools.office.runs import Run
-from debvote_tools.text.language import Language, language_of
+from debvote_tools.text.language import LANGUAGES, Language, language_of
+from debvote_tools.text.rendering import templates_of
+
+PACKAGE = "debvote_tools.office"
 
 # fields by their names, each with its values
 Form = Mapping[str, Sequence[str]]
+
+DESKS = range(1, 9)
 
 # in seconds, how long a page waits for a command; then it says that it runs
 PATIENCE = 1.5
@@ -22,103 +33,148 @@ PATIENCE = 1.5
 class Refused(Exception):
     """A request that is not answered."""
 
-    def __init__(self, status: http.HTTPStatus = http.HTTPStatus.NOT_FOUND) -> None:
-        super().__init__(status)
+    def __init__(self, status: HTTPStatus = HTTPStatus.NOT_FOUND) -> None:
         self.status = status
 
 
-class Page(NamedTuple):
-    """A page that is made of a template."""
-
-    template: str
-    values: Mapping[str, Any]
-    status: http.HTTPStatus = http.HTTPStatus.OK
-
-
-class See(NamedTuple):
-    """Another page follows, so that to load it again sends nothing again."""
-
-    place: str
-
-
-class File(NamedTuple):
-    """Bytes as they are, with a policy of their own."""
-
-    data: bytes
-    kind: str
-    policy: str
-
-
-Answer = Page | See | File
+class Answer(NamedTuple):
+    body: bytes
+    kind: str = "text/html"
+    status: HTTPStatus = HTTPStatus.OK
+    heads: Mapping[str, str] = {}
 
 
 @dataclasses.dataclass
 class Visit:
-    """A request that may be answered. Whose secret it has says which `room` is open to it."""
+    """A request that may be answered. Whose secret it has says which `room` is open to it; of the
+    page `letters/7` the route is `letters/`, and the rest `7`.
+    """
 
     office: Office
     room: str
+    route: str
+    rest: str
     query: Form
     form: Form = dataclasses.field(default_factory=dict)
+    # what is closed at its end
+    opened: contextlib.ExitStack = dataclasses.field(default_factory=contextlib.ExitStack)
+    # the folders of what it brought, for the command that it starts
+    uploads: list[pathlib.Path] = dataclasses.field(default_factory=list)
+
+    # ---- what it is about
+    @property
+    def number(self) -> int:
+        """That of one of several pages; 0 if it is none."""
+        return number_of(self.rest)
 
     @property
-    def base(self) -> str:
-        return f"/{self.office.rooms[self.room]}/"
-
-    @property
-    def folder(self) -> pathlib.Path:
-        if self.office.folder is None:
+    def desk(self) -> int:
+        if self.number not in DESKS:
             raise Refused()
-        return self.office.folder
+        return self.number
+
+    @property
+    def own_run(self) -> runs.Run:
+        """The command of the page."""
+        if self.number not in self.office.runs:
+            raise Refused()
+        return self.office.runs[self.number]
 
     @functools.cached_property
     def election(self) -> Election:
-        self.office.reading.acquire()
-        try:
-            return self.office.election_in(self.folder)
-        except BaseException:
-            self.office.reading.release()
-            raise
+        if self.office.folder is None:
+            raise Refused()
+        self.opened.enter_context(self.office.reading)
+        election = self.office.election_in(self.office.folder)
+        self.opened.callback(election.open_book.connection.close)
+        return election
 
     def close(self) -> None:
         """Closes the election until it is read again: while a command is waited for, others
         read.
         """
-        if "election" in vars(self):
-            vars(self).pop("election").open_book.connection.close()
-            self.office.reading.release()
-
-    def wait(self, run: Run) -> None:
-        """Waits for a command, for a while."""
-        self.close()
-        run.wait(PATIENCE)
+        vars(self).pop("election", None)
+        self.opened.close()
 
     @property
     def language(self) -> Language:
         return language_of(self.office.code)
 
-    def run(self, number: str) -> Run | None:
-        return self.office.runs.all.get(int(number)) if is_number(number) else None
-
-    def run_of(self, number: str) -> Run:
-        if (run := self.run(number)) is None:
-            raise Refused()
-        return run
-
-    @property
-    def asking(self) -> Run | None:
-        """The command that the address of the page names to show what it asks, if it is there."""
-        return self.run(first(self.query, "run"))
+    # ---- commands
+    def run(self, name: str) -> runs.Run | None:
+        """The command that the address names, if it is there: `run`, to show what it asks,
+        `done`, that has led to the page, or `again`.
+        """
+        return self.office.runs.get(number_in(self.query, name))
 
     @property
-    def done(self) -> Run | None:
-        """The command that has led to the page, once it was done well."""
-        run = self.run(first(self.query, "done"))
+    def done(self) -> runs.Run | None:
+        run = self.run("done")
         return run if run and run.place.endswith(f"?done={run.number}") else None
 
+    def wait(self, run: runs.Run) -> None:
+        """Waits for a command, for a while."""
+        self.close()
+        run.wait(PATIENCE)
 
-def is_number(text: str) -> bool:
-    return text.isascii() and text.isdecimal() and len(text) < 10
+    def new_folder(self) -> pathlib.Path:
+        self.uploads.append(pathlib.Path(tempfile.mkdtemp(dir=self.office.own)))
+        return self.uploads[-1]
+
+    def kept(self, given: str, data: bytes) -> str:
+        """Where a file lies that was uploaded, with a plain name like its own."""
+        plain = re.sub(r"[^\w.-]", "_", pathlib.PureWindowsPath(given).name)
+        file = self.new_folder() / (plain.lstrip(".-")[-80:] or "letters")
+        file.write_bytes(data)
+        return str(file)
+
+    # ---- what follows
+    @property
+    def base(self) -> str:
+        return f"/{self.office.rooms[self.room]}/"
+
+    def see(self, place: str) -> Answer:
+        """Another page follows, so that to load it again sends nothing again."""
+        heads = {"Location": f"{self.base}{place}"}
+        return Answer(b"", "text/plain", HTTPStatus.SEE_OTHER, heads)
+
+    def page(self, name: str, status: HTTPStatus = HTTPStatus.OK, **values: Any) -> Answer:
+        """A page that is made of a template."""
+        values |= {
+            "visit": self,
+            "base": self.base,
+            "folder": self.office.folder,
+            "language": self.language.code,
+            "place": name,
+        }
+        templates = templates_in(self.language)
+        macros = vars(templates.get_template("macros.html").make_module(values))
+        page = templates.get_template(f"{name}.html").render(values | macros)
+        return Answer(page.encode(), status=status)
+
+
+@functools.cache
+def templates_in(language: Language) -> jinja2.Environment:
+    """The templates of the office, and those of the result, whose panel it shows."""
+    environment = templates_of(PACKAGE, language, is_page=True)
+    assert environment.loader
+    loaders = [environment.loader, jinja2.PackageLoader("debvote_tools.result")]
+    made = environment.overlay(loader=jinja2.ChoiceLoader(loaders))
+    made.globals |= {
+        "languages": LANGUAGES,
+        "on_paper": ON_PAPER,
+        "replies_in": runs.replies_in,
+    }
+    return made
+
+
+def number_of(text: str) -> int:
+    """A number from 1; 0 if it is none."""
+    return int(text) if re.fullmatch("[0-9]{1,9}", text) else 0
+
+
+def number_in(form: Form, name: str) -> int:
+    return number_of(first(form, name))
 
 
 def first(form: Form, name: str) -> str:

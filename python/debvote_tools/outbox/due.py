@@ -15,11 +15,11 @@ from debvote_tools.election import LETTERS, RESULT_LETTER, Election, History
 from debvote_tools.inbox.last_asking import ASKING, unasked_fault, with_lost_records
 from debvote_tools.inbox.box_asking import ask_for
 from debvote_tools.inbox.fates import COUNTS, NOBODY, Fate, fates_of, told_of
-from debvote_tools.inbox.rules import LetterOutcome
+from debvote_tools.inbox.rules import Ruling
 from debvote_tools.inbox.stopping import pending_letters, what_stops
 from debvote_tools.outbox.reached import NO_LETTER, page_since, unreached, unreached_and_printed
 from debvote_tools.outbox.words import CORRECTED, DECIDED, SUBJECTS, Composer, OutgoingText
-from debvote_tools.result.publication import closing_letter, void_letter
+from debvote_tools.result.publication import closing_letter
 from debvote_tools.text.addresses import address_in
 from debvote_tools.text.language import language_of
 from debvote_tools.text.times import now
@@ -354,8 +354,8 @@ def reminder_or_receipt(
     composer: Composer, elector: Elector, fates: Sequence[Fate]
 ) -> OutgoingText:
     """A reminder; a receipt, if only a yes in `add` is lacking."""
-    told = [fate for fate in told_of(fates).values() if fate.became is not LetterOutcome.SET_ASIDE]
-    if any(fate.became is LetterOutcome.GOES_IN for fate in fates):
+    told = [fate for fate in told_of(fates).values() if fate.became is not Ruling.SET_ASIDE]
+    if any(fate.became is Ruling.GOES_IN for fate in fates):
         return composer.receipt(elector, told)
     return composer.reminder(elector, told)
 
@@ -387,7 +387,7 @@ def receipts_due(run: Run) -> LettersDue:
         in_no_receipt=[
             fate.letter.number
             for fate in fates[NOBODY]
-            if fate.letter and fate.became is LetterOutcome.WAITS and not fate.letter.is_automatic
+            if fate.letter and fate.became is Ruling.WAITS and not fate.letter.is_automatic
         ],
         letters_pending=letters_pending_in(fates),
     )
@@ -423,22 +423,12 @@ def new_receipts(
 
 
 def letters_of_close_due(run: Run) -> LettersDue:
-    """The letter of the close to each elector."""
-    text = closing_letter(run.election, run.history).decode()
+    """The letter of the close to each elector, or that nobody opens its list."""
+    text = closing_letter(run.election, run.history, f"{run.kind}.txt").decode()
     return to_each(
         run,
-        run.history.closes[-1].number,
-        lambda elector, _: run.composer.letter("closed", elector, letter=text),
-    )
-
-
-def void_letters_due(run: Run) -> LettersDue:
-    """The letter to each elector that nobody opens the list of the last close."""
-    text = void_letter(run.election, run.history).decode()
-    return to_each(
-        run,
-        run.history.named("reopen")[-1].number,
-        lambda elector, _: run.composer.letter("closed", elector, SUBJECTS["void"], letter=text),
+        run.history.named("reopen" if run.kind == "void" else "close")[-1].number,
+        lambda elector, _: run.composer.letter("closed", elector, SUBJECTS[run.kind], letter=text),
     )
 
 
@@ -487,7 +477,7 @@ OF_KINDS = {
     "reminders": reminders_due,
     "receipts": receipts_due,
     "closed": letters_of_close_due,
-    "void": void_letters_due,
+    "void": letters_of_close_due,
     "result": results_due,
 }
 

@@ -372,8 +372,8 @@ def ending(now: Now) -> Iterator[Due]:
         is_to_come = history.ends_after(now.time) and not history.closes
         yield Due(Step.WAIT, time=history.until) if is_to_come else Due(Step.CLOSE)
         return
-    lists = len(history.handed_on)
-    if lists < len(history.tellers):
+    if not history.are_all_opened:
+        lists = len(history.handed_on)
         yield Due(Step.OPENING, lists, [*history.tellers][lists])
         return
     if not history.publications:
@@ -394,7 +394,7 @@ def ties_of(election: Election, history: History) -> dict[str, Sequence[str]]:
     decided that option alone.
     """
     detail = history.publications[-1].detail
-    names = {label: poll.plain_names for label, poll in election.questions.items()}
+    names = {label: poll.plain_names for label, poll in election.decided.items()}
     ties: dict[str, Sequence[str]] = {
         label: [names[label][option - 1] for option in its["left"]]
         for label, its in detail["ended"].items()
@@ -569,7 +569,10 @@ def letters_words(election: Election, due: Due) -> str:
     if due.kind == "result" and not history.announced("at"):
         send = f"{sending(election, 'result')} --at URL"
     is_one = due.number == 1
-    return f"{count_of(due.number, one, several)} {'is' if is_one else 'are'} not sent: {send}; or by your mail program: {write}, then {done}"
+    return (
+        f"{count_of(due.number, one, several)} {'is' if is_one else 'are'} not sent: {send}; or "
+        f"by your mail program: {write}, then {done}"
+    )
 
 
 def file_of(election: Election, history: History, kind: str) -> pathlib.Path:
@@ -607,7 +610,10 @@ def publish_words(election: Election, due: Due) -> str:
     publish = election.command("publish", *next_place(election))
     if not due.questions:
         return publish
-    return f"{publish}, and {election.command('letters', '--send')}, so that everybody sees the tie before the casting vote; then {tie_words(election, due)}"
+    return (
+        f"{publish}, and {election.command('letters', '--send')}, so that everybody sees the tie "
+        f"before the casting vote; then {tie_words(election, due)}"
+    )
 
 
 def tie_words(election: Election, due: Due) -> str:
@@ -639,7 +645,8 @@ PLAIN = {
     Step.CODES: "the vote is secret, and electors have no codes yet: {codes}",
     Step.PAGE: "the page on the web host is not that of the call: upload the folder call, then {add --box}",
     Step.HELD: "{waiting}: {held}",
-    Step.NOT_REACHED: "the call has not reached {electors}, whom status names: tell them otherwise, then {status --done reached}; or correct members.csv, and run {roll}",
+    Step.NOT_REACHED: "the call has not reached {electors}, whom status names: tell them otherwise, then "
+    "{status --done reached}; or correct members.csv, and run {roll}",
     Step.BACKUP: "copy the book to another disk: {backup FILE}",
     Step.WAIT: "until {time} ballots come: {add FILE}, or {desk}",
     Step.OPENING: "{kind} opens list-{number}.txt in the hall, or once it was there for a day; then {tellers LIST}",

@@ -15,7 +15,7 @@ from debvote_tools.call.call import CallData
 from debvote_tools.call.form import PACKAGE as CALL_PACKAGE
 from debvote_tools.inbox.fates import COUNTS, REFUSED, TAKEN_BACK, Fate
 from debvote_tools.inbox.reasons import ReasonWithValues, for_elector
-from debvote_tools.inbox.rules import LetterCase, LetterOutcome
+from debvote_tools.inbox.rules import LetterCase, Ruling
 from debvote_tools.text.addresses import address_in
 from debvote_tools.text.ballots import faults_of
 from debvote_tools.text.language import Language, marked
@@ -48,17 +48,18 @@ END_SAID = marked("When the vote ends: {title}")
 
 
 # what became of a ballot, as the view `fate` says
-OF_BALLOT: dict[str | LetterOutcome, str] = marked(
+OF_BALLOT: dict[str | Ruling, str] = marked(
     {
         COUNTS: "Your ballot of {time} has arrived. It counts unless you send a later one.",
         "replaced": "Your ballot of {time} has arrived. Another ballot of yours, which was entered after it, counts instead.",
         "late": "Your ballot of {time} has arrived. It was entered after the close, so it is late and does not count.",
         "struck": "Your ballot of {time} was entered, and the secretary has struck it. It does not count.",
-        TAKEN_BACK: "Your ballot of {time} was entered, and the secretary has taken it back. It does not count unless it is entered again.",
+        TAKEN_BACK: "Your ballot of {time} was entered, and the secretary has taken it back. It does "
+        "not count unless it is entered again.",
         REFUSED: "A line with your name has arrived ({time}). It is not a valid ballot of this vote, so it does not count.",
     }
 )
-AT_THE_END: dict[str | LetterOutcome, str] = marked(
+AT_THE_END: dict[str | Ruling, str] = marked(
     {
         COUNTS: "Your ballot of {time} has arrived, and it counts.",
         TAKEN_BACK: "Your ballot of {time} was entered, and the secretary has taken it back. It does not count.",
@@ -88,7 +89,8 @@ OF_LETTER = marked(
 OF_OTHERS = marked(
     {
         False: "A letter of {time} has a ballot of somebody else, which was entered. No ballot of yours from it was entered.",
-        True: "A letter of {time} has a ballot of somebody else, which was entered. No ballot of yours from it is entered yet: the secretary has to look at it first.",
+        True: "A letter of {time} has a ballot of somebody else, which was entered. No ballot of "
+        "yours from it is entered yet: the secretary has to look at it first.",
     }
 )
 
@@ -97,11 +99,13 @@ OF_OTHERS = marked(
 OF_RECORD = marked(
     {
         True: (
-            "A ballot of {time} came by the page of the vote, with your link. It is not entered yet: the secretary has to look at it first.",
+            "A ballot of {time} came by the page of the vote, with your link. It is not entered "
+            "yet: the secretary has to look at it first.",
             "A ballot of {time} came by the page of the vote, with your link. It was not entered.",
         ),
         False: (
-            "A ballot in your name came by the page of the vote, but not with your present link. It waits until the secretary has looked at it.",
+            "A ballot in your name came by the page of the vote, but not with your present "
+            "link. It waits until the secretary has looked at it.",
             "A ballot in your name came by the page of the vote, but not with your present link. The secretary has set it aside.",
         ),
     }
@@ -109,7 +113,7 @@ OF_RECORD = marked(
 
 
 # the letters that nobody looks at any more, and from which nothing was entered
-DONE = (LetterOutcome.SET_ASIDE, LetterOutcome.OLDER, LetterOutcome.PASSED_OVER)
+DONE = (Ruling.SET_ASIDE, Ruling.OLDER, Ruling.PASSED_OVER)
 
 
 class OutgoingText(NamedTuple):
@@ -179,10 +183,10 @@ class Composer:
             if fate.is_own or fate.became in (COUNTS, REFUSED)
         )
         last = next(decide, COUNTS)
-        has_right_line = not self.is_over and last not in (COUNTS, LetterOutcome.GOES_IN)
+        has_right_line = not self.is_over and last not in (COUNTS, Ruling.GOES_IN)
         letters = [fate for fate in fates if fate.letter]
         waits = any(
-            fate.became is LetterOutcome.WAITS and not (fate.letter and fate.letter.read.link)
+            fate.became is Ruling.WAITS and not (fate.letter and fate.letter.read.link)
             for fate in letters
         )
         has_link = waits and all(fate.is_own for fate in letters) and not is_on_paper(elector)
@@ -232,7 +236,7 @@ class Composer:
             if self.call_data.tellers and fate.became == COUNTS:
                 sentence = OF_CLICK if fate.came_by and fate.came_by.read.block else ON_PAPER
         # what is told of a letter is told to those of whom nothing was entered
-        elif letter.not_taken_back and (fate.is_own or fate.became is LetterOutcome.ENTERED):
+        elif letter.not_taken_back and (fate.is_own or fate.became is Ruling.ENTERED):
             sentence = OF_OTHERS[letter.is_pending]
         else:
             is_done = fate.became in DONE

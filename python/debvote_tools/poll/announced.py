@@ -41,7 +41,10 @@ def parse_until(
             return in_zone(time, named), named
     except (ValueError, OverflowError):
         reason = "it is not a date with a time of day, or there is no such day or time"
-        cure = 'write it as "2026-12-04 18:00", as "2026-12-04 18:00+01:00" or in another form of ISO 8601, or with --zone Europe/Berlin'
+        cure = (
+            'write it as "2026-12-04 18:00", as "2026-12-04 18:00+01:00" or in another form of '
+            "ISO 8601, or with --zone Europe/Berlin"
+        )
         raise bad_until(reason, cure) from None
     if zone is not None:
         raise bad_words("--zone", "the time has an offset already", "leave out one of the two")

@@ -215,7 +215,10 @@ def bad_options(names: Sequence[str], plain_names: Sequence[str]) -> Iterator[Ba
     ):
         like = {alike(plain): "the plain name of ", alike(name): ""}.get(alike(other))
         if like is not None and alike(other) and plain != other_plain:
-            reason = f"it looks like {like}option {first}, `{shown_text(name)}`, except for case, accents, blanks or invisible characters"
+            reason = (
+                f"it looks like {like}option {first}, `{shown_text(name)}`, except for case, "
+                "accents, blanks or invisible characters"
+            )
             yield second, other, reason
 
 

@@ -12,7 +12,8 @@ from debvote_tools.sheet import Sheet
 # the words of the option --casting
 CASTING = (
     "NAME",
-    "The name of the option that the casting vote chooses in a tie, exactly as it is on the sheet or as people read it; write --casting=NAME if the name begins with a hyphen. "
+    "The name of the option that the casting vote chooses in a tie, exactly as it is on the "
+    "sheet or as people read it; write --casting=NAME if the name begins with a hyphen. "
     "Of several questions each tie has its own, with its label: B=NAME",
 )
 

@@ -132,11 +132,10 @@ class VoteFacts(NamedTuple):
     codes: Collection[str] = ()
     # whether the names on the roll are codes, and nobody has a list of them
     has_codes: bool = False
-    # with tellers: the numbers of the ballots by their places on the roll, the lists and the
-    # programs that check them, by their files, and how many each teller refused
+    # with tellers: the numbers of the ballots by their places on the roll, the lists and what
+    # checks them, by their files, and how many each teller refused
     numbers: Mapping[str, str] = {}
     lists: Mapping[str, bytes] = {}
-    programs: Mapping[str, bytes] = {}
     refused_by: Mapping[str, int] = {}
     # the web address of the result, if it is known
     at: str | None = None

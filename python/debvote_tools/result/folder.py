@@ -335,7 +335,6 @@ def further_files(outcome: Outcome, picture: bytes | None) -> dict[str, bytes]:
         file_names.CLOSED: facts.vote.closed,
         file_names.SEAL: f"{facts.seal}\n".encode() if facts.seal else None,
         **facts.vote.lists,
-        **facts.vote.programs,
     }
     for name, (what, places) in BESIDE.items():
         file = next((place for place in places if place.is_file()), None)

@@ -368,8 +368,10 @@ COUNT_AGAIN = marked(
         tell_if_published="If the files are as they were published, tell the other electors.",
         last="By this count the last line of the sheet is: {line}",
         casting="The sheet has a casting vote for {option}. No count shows whose it was.",
-        page_same="This page shows what its files come to: how it ended, the numbers beside its bars, the names of the options, the table of "
-        "votes, and each of the {ballots} ballots, by its ranks and in words. Nothing else is compared, neither the bars nor why the other "
+        page_same="This page shows what its files come to: how it ended, the numbers beside its bars, "
+        "the names of the options, the table of "
+        "votes, and each of the {ballots} ballots, by its ranks and in words. Nothing else is "
+        "compared, neither the bars nor why the other "
         "options have not won.",
         page_differs="This page does not show what its files come to: {where}.",
         the_result="the result",

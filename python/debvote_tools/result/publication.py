@@ -1,38 +1,25 @@
-"""What is published of an election, from its book: the letter of a close, the facts of a result.
-
-What the book has of the questions `close`, `count` and `publish` read in one way, and compare it
-with what debvote says of each line (`kept_of`).
-"""
+"""What is published of an election, from its book: the letter of a close, the facts of a result."""
 
 import collections
 import datetime
 import itertools
 import urllib.parse
-from collections.abc import Collection, Iterable, Iterator, Mapping, Sequence
-from typing import Any, NamedTuple
+from collections.abc import Collection, Iterator, Mapping, Sequence
+from typing import Any
 
 from debvote_tools.book import queries
 from debvote_tools.book.book import RESTORED, Book, DoneAct, as_text, from_text
 from debvote_tools.call.call import current_call
-from debvote_tools.call.secret import alias_in, aliased_ballots, sealed_checksum
 from debvote_tools.call.tellers import (
-    LIST_0,
-    VOTED,
-    are_all_opened,
+    files_beside,
     kept_lists,
     last_ballots,
-    program_files,
-    tellers_file,
-    voted_file,
 )
 from debvote_tools.cli.console import demand_yes, in_runs, say, say_time, tell_aside
-from debvote_tools.cli.faults import Fault
-from debvote_tools.debvote import casting_words
-from debvote_tools.election import TELLERS, Election, Fixed, History, fixed_by
+from debvote_tools.election import Election, History, fixed_by
 from debvote_tools.files import sha256_of
 from debvote_tools.grouping import grouped
 from debvote_tools.inbox.last_asking import is_unasked_since_end, other_pages, with_lost_records
-from debvote_tools.inbox.lines import name_in
 from debvote_tools.inbox.stopping import (
     BOX,
     LETTERS,
@@ -41,152 +28,19 @@ from debvote_tools.inbox.stopping import (
     letters_cure,
     what_stops,
 )
-from debvote_tools.poll.sealed import SealedPoll
 from debvote_tools.result.casting import Castings, publishing
 from debvote_tools.result.facts import Act, Doubt, PublishedWords, QuestionFacts, VoteFacts
 from debvote_tools.result.file_names import CHECKSUMS
-from debvote_tools.sheet import Sheet, sheet_in
-from debvote_tools.text.ballots import ballot_file, in_normal_form
+from debvote_tools.result.kept_questions import (
+    KeptQuestion,
+    decided_questions,
+    demand_same_verdicts,
+    sheet_of,
+)
+from debvote_tools.text.ballots import in_normal_form
 from debvote_tools.text.language import language_of
 from debvote_tools.text.rendering import render_letter
 from debvote_tools.text.times import time_in_words
-
-
-# ---- what the book has of the questions
-class Kept(NamedTuple):
-    """What the book has of a question at one time."""
-
-    poll: SealedPoll
-    # all lines in time, as debvote counts them, and as they are published: in a secret vote those
-    # that count, by alias
-    ballots: bytes
-    public: bytes
-    # how many these are; and debvote's verdicts, as the book keeps them: the words with which it
-    # refuses lines, by their places, and what counts of each elector
-    lines: int
-    refused: dict[int, str]
-    counting: dict[str, str]
-    late: list[bytes]
-
-
-def demand_countable(election: Election, history: History) -> None:
-    """Stops at a secret vote that is not closed: whoever sees its numbers grow sees who voted
-    what.
-    """
-    if election.questions.is_secret and not history.is_closed:
-        words = "the vote is secret, and can be counted only after the close"
-        raise Fault(None, words, f"close it first: {election.command('close')}")
-    if not are_all_opened(history):
-        words = "the tellers have not opened all layers yet"
-        raise Fault(None, words, f"enter what they hand on: {election.command('tellers', 'LIST')}")
-
-
-def kept_of(election: Election, history: History, labels: Iterable[str]) -> dict[str, Kept]:
-    """What the book has of these questions. Stops if an envelope is not kept for the elector whose
-    name its line begins with, if ballots are not those that the close has fixed, and if debvote,
-    asked anew, has another verdict on a line than the book keeps of it.
-    """
-    book = election.book
-    by_label = dict[str, Kept]()
-    with book.snapshot():
-        demand_own_lines(book, election.questions.roll)
-        for label in labels:
-            with book.question(label):
-                by_label[label] = kept_of_question(book, label, election.questions[label])
-    if history.is_closed and history.tellers:
-        by_label[""] = sealed_to_tellers(book, history, by_label[""])
-    for label, kept in by_label.items() if history.is_closed else ():
-        demand_fixed(fixed_by(history.closes[-1])[label], kept)
-    for kept in by_label.values():
-        findings = election.debvote.findings(kept.poll.as_bytes(), kept.ballots)
-        verdicts = {finding.line: finding.word for finding in findings.refused}
-        demand_kept(election, (verdicts, findings.voters), (kept.refused, len(kept.counting)))
-    return by_label
-
-
-def demand_fixed(fixed: Fixed, kept: Kept) -> None:
-    """Stops at ballots that are not those of the close."""
-    checksum = sealed_checksum(fixed.seal, kept.public)
-    if checksum != fixed.checksum:
-        words = f"the ballots have the checksum {checksum}, and the close recorded {fixed.checksum}"
-        raise Fault(None, words, KEEP)
-
-
-def sealed_to_tellers(book: Book, history: History, kept: Kept) -> Kept:
-    """The same, with the list of the close in place of ballots. Stops if those who are checked off
-    are others than the close kept.
-    """
-    close = history.closes[-1].number
-    if voted_file(kept.counting) != queries.sealed(book, VOTED, close):
-        raise Fault(book.path, f"those who voted are not those of {VOTED}", KEEP)
-    return kept._replace(public=queries.sealed(book, LIST_0, close))
-
-
-def decided_of(election: Election, history: History, labels: Iterable[str]) -> dict[str, Kept]:
-    """What the book has of these questions as they are decided: with tellers the ballots that they
-    have opened, by the places of the public roll.
-    """
-    kept = kept_of(election, history, labels)
-    if not history.tellers:
-        return kept
-    poll = election.decided[""]
-    ballots = last_ballots(election.book, history, poll.roll)
-    counting = {place: ranks for place, (_, ranks) in ballots.items()}
-    lines = "".join(f"{place} {ranks}\n" for place, ranks in counting.items()).encode()
-    as_decided = kept[""]._replace(
-        poll=poll, ballots=lines, public=lines, lines=len(counting), refused={}, counting=counting
-    )
-    return {"": as_decided}
-
-
-def kept_of_question(book: Book, label: str, poll: SealedPoll) -> Kept:
-    """What the book has of the question that is seen alone."""
-    answered = queries.lines_with_refusals(book)
-    counting = queries.what_counts(book)
-    ballots = ballot_file(line for line, _ in answered)
-    aliases = {elector.name: alias_in(label, elector) for elector in queries.electors(book)}
-    return Kept(
-        poll=poll,
-        ballots=ballots,
-        public=aliased_ballots(counting, aliases) if poll.secret else ballots,
-        lines=len(answered),
-        # another version of debvote may give the reason in other words
-        refused={
-            place: why.partition(": ")[0]
-            for place, (_, why) in enumerate(answered, start=1)
-            if why is not None
-        },
-        counting=counting,
-        late=queries.lines(book, "envelope IN late"),
-    )
-
-
-KEEP = "keep the folder as it is, and tell the maintainers"
-
-
-def demand_own_lines(book: Book, roll: Collection[str]) -> None:
-    """Stops if an envelope is not kept for the elector whose name its line begins with."""
-    names = frozenset(roll)
-    for number, name, line in queries.names_and_lines(book):
-        first = name_in(line).decode()
-        if name != (first if first in names else None):
-            words = f"envelope {number} is kept for another elector than the one whose name its line begins with"
-            raise Fault(book.path, words, KEEP)
-
-
-def demand_kept(election: Election, answer: object, kept: object) -> None:
-    """Stops if debvote says another thing of the lines than the book keeps of it."""
-    if answer != kept:
-        words = "debvote says of its lines another thing than it keeps: a verdict was changed, or another version of debvote judges"
-        raise Fault(election.book.path, words, KEEP)
-
-
-def sheet_of(election: Election, kept: Kept, casting: str | None) -> Sheet:
-    """What debvote counts of a question, with the option of the casting vote."""
-    words = casting_words(casting)
-    return sheet_in(
-        election.debvote.answer("count", kept.poll.as_bytes(), kept.ballots, *words).text
-    )
 
 
 # ---- the facts
@@ -221,15 +75,12 @@ def facts_of_tellers(election: Election, history: History) -> dict[str, Any]:
     """The facts of a vote in which tellers have opened the ballots."""
     if not (tellers := history.tellers):
         return {}
-    book = election.book
-    lists = {f"list-{step}.txt": data for step, data in enumerate(kept_lists(book, history))}
-    ballots = last_ballots(book, history, election.decided.roll)
-    refused = [act.detail["refused"] for act in history.handed_on]
+    ballots = last_ballots(election, history)
+    handed_on = zip(tellers, history.handed_on)
     return {
         "numbers": {place: number for place, (number, _) in ballots.items()},
-        "lists": {**lists, TELLERS: tellers_file(tellers)},
-        "programs": program_files(),
-        "refused_by": dict(zip(tellers, refused)),
+        "lists": kept_lists(election.book, history) | files_beside(tellers),
+        "refused_by": {name: act.detail["refused"] for name, act in handed_on},
     }
 
 
@@ -250,9 +101,9 @@ def question_facts(election: Election, vote: VoteFacts) -> list[QuestionFacts]:
     """The facts of each question. Stops if debvote does not find the ballots as they are kept."""
     history = election.history()
     questions = list[QuestionFacts]()
-    for label, kept in decided_of(election, history, election.questions).items():
+    for label, kept in decided_questions(election, history, election.questions).items():
         standing = election.debvote.standing(kept.poll.as_bytes(), kept.ballots)
-        demand_kept(election, standing, kept.counting)
+        demand_same_verdicts(election, standing, kept.counting)
         facts = QuestionFacts(vote, label, kept.public, len(kept.late), kept.late)
         if vote.questions.is_secret:
             facts = facts._replace(
@@ -284,47 +135,34 @@ def early_close(history: History) -> Doubt | None:
     return Doubt("closed early", advice, {"closed": closed, "until": until}, stops=False)
 
 
-def closing_letter(election: Election, history: History) -> bytes:
-    """The letter of the last close, with what it says of the one before. In a secret vote the
-    reason for which the vote was opened again stays in the log.
+def closing_letter(election: Election, history: History, template: str = "closed.txt") -> bytes:
+    """The letter of the last close, with what it says of the one before; or `void.txt`, that nobody
+    opens its list, since the vote is open again. In a secret vote the reason for which the vote was
+    opened again stays in the log.
     """
     questions = election.sealed().public
     reasons = [act.detail["because"] for act in history.since_call("reopen")]
+    closes = [(act.time.astimezone(history.zone), fixed_by(act)) for act in history.closes]
     return render_letter(
         __package__,
-        "closed.txt",
+        template,
         election.language,
         questions=questions,
         close=history.closes[-1],
-        closes=[(act.time.astimezone(history.zone), fixed_by(act)) for act in history.closes],
+        closes=closes,
         until=history.until,
         early=early_close(history),
         tellers=history.tellers,
-        opened=address_and_time(election, history),
-        void=[fixed_by(act)[""].checksum for act in history.closes[:-1] if history.tellers],
+        # by mail: after a day to see it
+        opened=closes[-1][0] + datetime.timedelta(days=1),
+        address=urllib.parse.urljoin(history.announced("at") or "", "list-0.txt"),
         reasons=[] if questions.is_secret else reasons,
     ).encode()
 
 
-def void_letter(election: Election, history: History) -> bytes:
-    """The letter to all that nobody opens the list of the last close, since the vote is open
-    again.
-    """
-    questions = election.sealed().public
-    checksum = fixed_by(history.closes[-1])[""].checksum
-    return render_letter(
-        __package__, "void.txt", election.language, questions=questions, checksum=checksum
-    ).encode()
-
-
-def address_and_time(election: Election, history: History) -> dict[str, str]:
-    """With tellers where list 0 lies, and when it is opened by mail: after a day to see it."""
-    day = history.closes[-1].time.astimezone(history.zone) + datetime.timedelta(days=1)
-    address = urllib.parse.urljoin(history.announced("at") or "", "list-0.txt")
-    return {"address": address, "time": time_in_words(day, election.language)}
-
-
-def shown_by_comparison(election: Election, history: History, label: str, kept: Kept) -> list[str]:
+def shown_by_comparison(
+    election: Election, history: History, label: str, kept: KeptQuestion
+) -> list[str]:
     """The electors of a secret vote whose ballots differ from those of the last publication: a
     comparison shows theirs alone.
     """
@@ -390,7 +228,10 @@ def other_castings(election: Election, history: History, castings: Castings) -> 
             if option != casting:
                 name = poll.names[poll.plain_names.index(option)]
                 again = publishing(election, {**all_castings, label: option})
-                advice = f"an earlier publication has a casting vote for {name}; only one can be right, so find out which was given; the earlier one again: {again}"
+                advice = (
+                    f"an earlier publication has a casting vote for {name}; only one can be "
+                    f"right, so find out which was given; the earlier one again: {again}"
+                )
                 yield Doubt("other casting vote", advice, {"option": name}, label=label)
 
 

@@ -10,17 +10,26 @@ folder `templates`; those that all packages share are in that of debvote_tools.
 import base64
 import functools
 import hashlib
+import importlib.util
 import pathlib
 import re
 import textwrap
 from collections.abc import Callable, Iterable
+from typing import TYPE_CHECKING
 
-import jinja2
 from markupsafe import Markup
 
 from debvote_tools.text.language import ENGLISH, Language, marked
 from debvote_tools.text.motions import WORDS
 from debvote_tools.text.times import date_in_words, time_in_words
+
+if TYPE_CHECKING:
+    import jinja2
+
+# it takes as long to be imported as all else: that is left to who makes a page or a letter, but a
+# command that lacks it stops before it does anything
+if importlib.util.find_spec("jinja2") is None:
+    raise ModuleNotFoundError("No module named 'jinja2'", name="jinja2")
 
 # two numbers of which a page leaves none alone on a line
 COMPARED = re.compile(r"\{over\}[\w ]+\{under\}")
@@ -81,8 +90,10 @@ LETTER_FILTERS: dict[str, Callable[..., str]] = {
 
 
 @functools.cache
-def templates_of(package: str, language: Language, *, is_page: bool) -> jinja2.Environment:
+def templates_of(package: str, language: Language, *, is_page: bool) -> "jinja2.Environment":
     """The templates of a package, and those that all share, which say sentences in the language."""
+    import jinja2
+
     speaker = InHtml(language.code, language.catalog) if is_page else language
     environment = jinja2.Environment(
         loader=jinja2.ChoiceLoader(
@@ -171,4 +182,8 @@ def policy_of(style: str, scripts: Iterable[str], *, sends: bool) -> str:
 
 def checksum_source(text: str) -> str:
     """How the policy of a page allows a script or a style that is in it."""
-    return f"'sha256-{base64.b64encode(hashlib.sha256(text.encode()).digest()).decode()}'"
+    return f"'sha256-{digest_of(text)}'"
+
+
+def digest_of(text: str) -> str:
+    return base64.b64encode(hashlib.sha256(text.encode()).digest()).decode()

@@ -7,6 +7,7 @@ import json
 import os
 import pathlib
 import re
+import shlex
 import shutil
 import signal
 import sqlite3
@@ -16,6 +17,8 @@ import time
 from collections.abc import Sequence
 from unittest import mock
 
+import pytest
+
 from debvote_tools.book import chain, machine_note, queries
 from debvote_tools.book.book import open_book
 from debvote_tools.cli.faults import Fault
@@ -24,45 +27,19 @@ from tests.support import elections
 
 INSIDE = elections.ROOT / "docs" / "INSIDE.md"
 
-MOVED = ("--moved", "--because", "the disk was exchanged")
+MOVED = "--moved --because 'the disk was exchanged'"
 
 # the commands that stop at a book that this machine does not know, and those that say so and go on
-ACTING = [
-    words.split()
-    for words in (
-        "add --yes more",
-        "close",
-        "roll",
-        "strike 1 --because x",
-        "undo --yes",
-        "desk",
-        "held 1 --set-aside",
-        "reopen --because x",
-        "call --to x@club.example",
-        "codes",
-        "count",
-        "publish",
-        "letters receipts",
-    )
-]
-READING = [
-    words.split()
-    for words in (
-        "status",
-        "status --json",
-        "show ada",
-        "log",
-        "log --check",
-        "held",
-        "check",
-        "add --look more",
-    )
-]
+ACTING = (
+    "add --yes more|close|roll|strike 1 --because x|undo --yes|desk|held 1 --set-aside|"
+    "reopen --because x|call --to x@club.example|codes|count|publish|letters receipts"
+).split("|")
+READING = "status|status --json|show ada|log|log --check|held|check|add --look more".split("|")
 # those on whose words others rely: they read the whole chain
-RELYING = [
-    words.split()
-    for words in ("log --check", "count", "close", "publish", "export out", "backup copy.db")
-]
+RELYING = "log --check|count|close|publish|export out|backup copy.db".split("|")
+
+# some that do an act
+ACTS = ["strike 1 --because x", "add --yes more", "undo --yes", "call --at https://club.example/"]
 
 # gives each lock that somebody asks for, as some file systems do
 NO_LOCKS = """
@@ -94,31 +71,39 @@ class BookTest(elections.ElectionTest):
 
     def add(self, *lines: str):
         self.write("lines", "".join(f"{line}\n" for line in lines))
-        self.done("add", "--yes", "lines")
+        self.done("add --yes lines")
+
+    def opened(self) -> contextlib.closing[sqlite3.Connection]:
+        """The book, in another program."""
+        return contextlib.closing(sqlite3.connect(self.book, isolation_level=None))
 
     def sql(self, *statements: str):
         """Changes the book with another program, past its triggers, which are there again afterwards."""
         triggers = self.rows("SELECT name, sql FROM sqlite_schema WHERE type = 'trigger'")
         dropped = [f"DROP TRIGGER {name}" for name, _ in triggers]
-        with contextlib.closing(sqlite3.connect(self.book, isolation_level=None)) as connection:
+        with self.opened() as connection:
             for statement in (*dropped, *statements, *(sql for _, sql in triggers)):
                 connection.execute(statement)
+
+    def stops(self, typed: str, *parts: str):
+        """A command ends with a fault, which says what it has not done."""
+        with self.subTest(typed):
+            self.refused(typed, *parts, elections.nothing_by(typed.split()))
 
     def assert_stops(
         self,
         *parts: str,
-        acting: Sequence[Sequence[str]] = ACTING[:2],
-        reading: Sequence[Sequence[str]] = READING[:1],
+        acting: Sequence[str] = ACTING[:2],
+        reading: Sequence[str] = READING[:1],
     ):
         """What writes an act, or says what others rely on, stops; what reads says it and goes on."""
         self.write("more", "hal 1,2,3,4\n")
         before = self.read("election.db")
-        for words in acting:
-            with self.subTest(words):
-                self.assert_fault(self.election(*words), 9, *parts, elections.nothing_by(words))
-        for words in reading:
-            with self.subTest(words):
-                ended = self.election(*words)
+        for typed in acting:
+            self.stops(typed, *parts)
+        for typed in reading:
+            with self.subTest(typed):
+                ended = self.election(typed)
                 self.assertEqual(ended.status, 0, ended)
                 self.assertRegex(ended.faults, r"\ANote: .*\n\Z")
                 for part in parts:
@@ -136,24 +121,28 @@ class Copies(BookTest):
         self.add("ada 1,2,3,4")
         shutil.copy(self.book, copy)
         self.add("ben 1,2,3,4")
-        self.done("strike", "1", "--because", "not hers")
-        self.done("call", "--until", "2099-12-06 18:00", "--zone", "UTC")
+        self.done("strike 1 --because 'not hers'")
+        self.done("call --until '2099-12-06 18:00' --zone UTC")
         copy.replace(self.book)
         lacks = "it ends with act 4, and this computer has seen act 7: it is an older copy, which lacks add (1), strike (1), extend (1)"
         self.assert_stops("election.db", lacks)
-        self.assertIn("--moved", self.election("add", "--yes", "more").faults)
-        self.assert_fault(self.election("add", "--yes", "--moved", "more"), 2, "--moved", "reason")
-        odd = self.election("add", "--yes", "--moved", "--because", "a\u202eb", "more")
-        self.assert_fault(odd, 2, "--because: the text has the character U+", "nothing was added")
-        self.done("add", "--yes", *MOVED, "more")
-        log = self.done("log", "--json").output
+        self.assertIn("--moved", self.election("add --yes more").faults)
+        self.refused("add --yes --moved more", "--moved", "reason", status=2)
+        self.refused(
+            "add --yes --moved --because 'a\u202eb' more",
+            "--because: the text has the character U+",
+            "nothing was added",
+            status=2,
+        )
+        self.done(f"add --yes {MOVED} more")
+        log = self.done("log --json").output
         self.assertEqual(
             ([json.loads(line)["name"] for line in log.splitlines()][-2:], log.count(lacks)),
             (["moved", "add"], 1),
         )
         # no file of a disk shows that all of it was put back, so the secretary says it where nothing stops
         self.write("more", "ida 1,2,3,4\n")
-        self.assertIn("3 counted", self.done("add", "--yes", *MOVED, "more").output)
+        self.assertIn("3 counted", self.done(f"add --yes {MOVED} more").output)
         self.done("close")
         self.done("publish")
         self.assertIn("in which act 6 was the last", self.read("result/index.html").decode())
@@ -163,7 +152,7 @@ class Copies(BookTest):
         here.rename(self.folder)
         self.assert_stops("never seen this election in this folder")
         self.write("more", "hal 1,2,3,4\n")
-        self.done("add", "--yes", *MOVED, "more")
+        self.done(f"add --yes {MOVED} more")
         self.add("ida 1,2,3,4")
         self.done("close")
         self.done("publish")
@@ -177,12 +166,12 @@ class Copies(BookTest):
         shutil.copytree(self.folder, other)
         shutil.copy(copy, other / "election.db")
         self.write("lines", "cleo 1,2,3,4\n")
-        self.done("add", "--yes", *MOVED, self.folder / "lines", cwd=other)
+        self.done(f"add --yes {MOVED} {self.folder}/lines", cwd=other)
         self.done("desk", given="cleo 1,2,3,4\n", cwd=other)
         shutil.copy(other / "election.db", self.book)
         self.assert_stops("election.db", "is not the one that this computer saw")
         # nobody says that it was restored, though it may have as many acts
-        self.done("close", *MOVED)
+        self.done(f"close {MOVED}")
         self.done("publish")
         page = self.read("result/index.html").decode()
         self.assertIn("whose act 4 is not the one that this computer had noted", page)
@@ -218,10 +207,10 @@ class Copies(BookTest):
         with mock.patch.object(machine_note, "MACHINE_ID", other_id):
             self.assert_stops("never seen this election in this folder")
             self.write("more", "hal 1,2,3,4\n")
-            self.done("add", "--yes", *MOVED, "more")
+            self.done(f"add --yes {MOVED} more")
         self.assert_stops("its act 6 was done on another computer")
         self.write("more", "ida 1,2,3,4\n")
-        self.done("add", "--yes", *MOVED, "more")
+        self.done(f"add --yes {MOVED} more")
         [(salt,)] = self.rows("SELECT salt FROM act WHERE act = 1")
         ids = [
             file.read_bytes() if file.exists() else b""
@@ -242,9 +231,9 @@ class Copies(BookTest):
         kept.rename(self.state)
         self.add("ben 1,2,3,4")
         # a copy beside it
-        self.done("backup", "copy.db")
+        self.done("backup copy.db")
         self.add("cleo 1,2,3,4")
-        self.assertEqual(self.election("backup", "copy.db").status, 2)
+        self.assertEqual(self.election("backup copy.db").status, 2)
         self.assertEqual((self.folder / "copy.db").stat().st_mode & 0o777, 0o600)
         # a new election in the same place
         shutil.rmtree(self.folder)
@@ -288,7 +277,7 @@ class Copies(BookTest):
         before = self.contents()
         (self.state / "debvote" / "lock").unlink()
         (self.state / "debvote" / "lock").mkdir()
-        self.assert_fault(self.election("add", "--yes", "more"), 7, "this computer must note there")
+        self.refused("add --yes more", "this computer must note there", status=7)
         self.assertEqual(self.contents(), before)
 
     def test_left_by_a_sync_tool(self):
@@ -302,9 +291,9 @@ class Copies(BookTest):
         here, self.folder, before = self.folder, other, self.state
         self.state = self.scratch / "other state"
         books = [self.read("election.db")[:5_000]]
-        pages = (("call", "--at", f"https://club.example/{number}") for number in (1, 2))
-        for words in (("strike", "1", "--because", "x", *MOVED[:1]), *pages):
-            self.done(*words)
+        pages = (f"call --at https://club.example/{number}" for number in (1, 2))
+        for typed in ("strike 1 --because x --moved", *pages):
+            self.done(typed)
             books.append(self.read("election.db"))
         self.folder, self.state = here, before
         for name, data in zip(
@@ -345,7 +334,7 @@ class Rewritten(BookTest):
     def test_whole(self):
         """Each digest is over the one before and all rows of the act, as the program of INSIDE says."""
         # the chain reads no index
-        with contextlib.closing(sqlite3.connect(self.book)) as connection:
+        with self.opened() as connection:
             chain.prepare(connection)
             queries_of_all = map(chain.query_of, chain.line_of())
             plans = [
@@ -355,12 +344,10 @@ class Rewritten(BookTest):
         self.assertEqual(len(plans), 10)
         for plan in plans:
             self.assertEqual([step for *_, step in plan if "INDEX" in step], [])
-        self.done("strike", "2", "--because", 'Ben\'s "Ö" \\')
-        self.assertIn("The chain is whole: 5 acts", self.done("log", "--check").output)
+        self.done("strike 2 --because 'Ben'\"'\"'s \"Ö\" \\'")
+        self.assertIn("The chain is whole: 5 acts", self.done("log --check").output)
         [last] = self.of_document()
-        self.assertEqual(
-            last.split()[-1], json.loads(self.done("status", "--json").output)["digest"]
-        )
+        self.assertEqual(last.split()[-1], json.loads(self.done("status --json").output)["digest"])
         # the view of the ballots
         self.add("cleo 1,2,3,4")
         self.done("close")
@@ -384,7 +371,7 @@ class Rewritten(BookTest):
                 queries.add_envelopes(
                     act, map(queries.NewEnvelope, odd), [None] * len(odd), is_late=False
                 )
-        self.assertIn("The chain is whole: 10 acts", self.done("log", "--check").output)
+        self.assertIn("The chain is whole: 10 acts", self.done("log --check").output)
         self.assertEqual(len(self.of_document()), 1)
 
     def tables(self) -> list[str]:
@@ -392,11 +379,12 @@ class Rewritten(BookTest):
 
     def fill_each_table(self):
         self.write("mail", "From: Ada <ada@club.example>\nMessage-ID: <1@x>\nSubject: x\n\nHello\n")
-        self.done("add", "--yes", "mail")
-        self.done("held", "1", "--set-aside")
-        self.done("strike", "2", "--because", "x")
-        self.done("letters", "receipts")
+        self.done("add --yes mail")
+        self.done("held 1 --set-aside")
+        self.done("strike 2 --because x")
+        self.done("letters receipts")
 
+    @pytest.mark.whole
     def test_each_column(self):
         """One row of each table is changed in each of its columns, which the book itself names."""
         self.fill_each_table()
@@ -418,7 +406,7 @@ class Rewritten(BookTest):
                 if (table, column) == ("act", "act"):
                     said = f"rows of act {act}, and no such act"
                 with self.subTest(f"{table}.{column}"):
-                    with contextlib.closing(sqlite3.connect(self.book)) as connection:
+                    with self.opened() as connection:
                         chain.prepare(connection)
                         self.assertIn(said, " ".join(chain.damage(connection)))
                     self.assertGreater(len(self.of_document()), 1)
@@ -427,6 +415,7 @@ class Rewritten(BookTest):
         self.assertEqual((len(tables), tried), (10, 52))
 
     def test_a_line_that_is_changed_removed_or_added(self):
+        said = "act 4 does not match its digest"
         columns = "envelope, act, elector, line, place, time, late"
         added = "(3, 4, 3, CAST('cleo 1,2,3,4' AS BLOB), ':3', '2026-12-04T17:00:00Z', 0)"
         whole = self.read("election.db")
@@ -437,13 +426,16 @@ class Rewritten(BookTest):
         ):
             self.sql(statement)
             # each command on whose words others rely says so; so does the program of INSIDE
-            for words in RELYING if statement == CHANGED else RELYING[:1]:
-                with self.subTest(statement, words=words):
-                    self.assert_fault(
-                        self.election(*words), 9, "election.db", "act 4 does not match its digest"
-                    )
-            self.assertIn("act 4 does not match its digest", self.of_document())
+            for typed in RELYING if statement == CHANGED else RELYING[:1]:
+                with self.subTest(statement, typed=typed):
+                    self.refused(typed, "election.db", said)
+            self.assertIn(said, self.of_document())
             self.book.write_bytes(whole)
+        # each act computes the digest of the one before it anew
+        self.sql(CHANGED)
+        self.write("more", "hal 1,2,3,4\n")
+        for typed in ACTS:
+            self.stops(typed, said)
 
     def test_rows_of_no_act(self):
         """Rows before the first act, within a gap that there is not, and after the last act."""
@@ -451,15 +443,15 @@ class Rewritten(BookTest):
         for act in (-1, 0, 5, 1_000_000):
             self.sql(f"INSERT INTO struck VALUES (1, {act}), (2, {act})")
             said = f"it has rows of act {act}, and no such act"
-            self.assert_fault(self.election("log", "--check"), 9, said)
+            self.refused("log --check", said)
             self.assertGreater(len(self.of_document()), 1)
             self.book.write_bytes(whole)
 
     def test_an_index_that_answers_in_place_of_the_table(self):
         """One bit of the table is changed, and the index says what was there before; or one of the index, and the table says it."""
-        self.done("strike", "1", "--because", "x")
+        self.done("strike 1 --because x")
         whole = self.read("election.db")
-        with contextlib.closing(sqlite3.connect(self.book)) as connection:
+        with self.opened() as connection:
             [(size,)] = connection.execute("PRAGMA page_size")
             pages = dict(
                 connection.execute(
@@ -486,7 +478,7 @@ class Rewritten(BookTest):
             with self.subTest(name):
                 self.book.write_bytes(whole[:at] + bytes([whole[at] ^ 2]) + whole[at + 1 :])
                 said = "election.db: the book is damaged"
-                self.assert_fault(self.election("log", "--check"), 9, said, "struck")
+                self.refused("log --check", said, "struck")
                 self.assertGreater(len(self.of_document()), 1)
                 # nothing is built on it, either
                 ended = self.election("desk", given="hal 1,2,3,4\n")
@@ -497,8 +489,8 @@ class Rewritten(BookTest):
         with contextlib.closing(sqlite3.connect(copy)) as connection:
             connection.execute("REINDEX")
         copy.replace(self.book)
-        self.assertIn("The chain is whole: ", self.done("log", "--check").output)
-        self.done("export", "out")
+        self.assertIn("The chain is whole: ", self.done("log --check").output)
+        self.done("export out")
 
     def test_another_schema(self):
         """What somebody adds to the schema, takes from it or changes in it is seen by each command that opens the book."""
@@ -521,31 +513,16 @@ class Rewritten(BookTest):
                 "UPDATE sqlite_schema SET sql = replace(sql, 'act INTEGER', 'act  INTEGER') WHERE name = 'struck'",
             ],
         }.items():
-            with contextlib.closing(sqlite3.connect(self.book, isolation_level=None)) as connection:
+            with self.opened() as connection:
                 for statement in statements:
                     connection.execute(statement)
             changed = self.read("election.db")
-            every = (("status",), ("desk",), ("log", "--check"), ("backup", "copy.db"))
-            for words in every[: 4 if name == "trigger x" else 1]:
-                with self.subTest(name, words=words):
-                    said = f"the {name} is not as new makes it"
-                    self.assert_fault(self.election(*words, given=""), 9, said)
+            every = ["status", "desk", "log --check", "backup copy.db"]
+            for typed in every if name == "trigger x" else every[:1]:
+                with self.subTest(name, typed=typed):
+                    self.refused(typed, f"the {name} is not as new makes it")
             self.assertEqual(self.read("election.db"), changed)
             self.book.write_bytes(whole)
-
-    def test_nothing_is_built_on_a_broken_book(self):
-        """Each act computes the digest of the one before it anew."""
-        self.sql(CHANGED)
-        self.write("more", "hal 1,2,3,4\n")
-        strike, call = ("strike", "1", "--because", "x"), ("call", "--at", "https://club.example/")
-        acting = (("add", "--yes", "more"), strike, ("undo", "--yes"), call)
-        for words in acting:
-            self.assert_fault(
-                self.election(*words),
-                9,
-                "act 4 does not match its digest",
-                elections.nothing_by(words),
-            )
 
     def test_no_act_adopts_rows(self):
         """Rows with the number of the act to come, or of one after it, stop it, in whatever table they are."""
@@ -574,19 +551,8 @@ class Rewritten(BookTest):
         self.sql(f"INSERT INTO struck VALUES (1, {last + 1})")
         changed = self.read("election.db")
         self.write("more", "hal 1,2,3,4\n")
-        for words in (
-            ("add", "--yes", "more"),
-            ("undo", "--yes"),
-            ("held", "1", "--wait"),
-            ("close",),
-            ("call", "--at", "https://x.example/"),
-        ):
-            self.assert_fault(
-                self.election(*words),
-                9,
-                f"it has rows of act {last + 1}, and no such act",
-                elections.nothing_by(words),
-            )
+        for typed in (*ACTS[1:], "held 1 --wait", "close"):
+            self.stops(typed, f"it has rows of act {last + 1}, and no such act")
         self.assertEqual(self.read("election.db"), changed)
 
     def made_whole(self, *statements: str):
@@ -607,16 +573,14 @@ class Rewritten(BookTest):
                     connection.execute(sql)
                 book.note().put(machine_note.Note(int(act[0]), before), is_moved=True)
 
-    def assert_changed(
-        self, statement: str, said: str, commands: Sequence[Sequence[str]] = (("count",),)
-    ):
+    def assert_changed(self, statement: str, said: str, *commands: str):
         """A book that was changed so, and made whole, stops what others rely on. Then it is as before."""
         whole, notes = self.read("election.db"), (self.state / "debvote").iterdir()
         state = {file: file.read_bytes() for file in notes}
         self.made_whole(statement)
-        for words in commands:
-            with self.subTest(statement, words=words):
-                self.assert_fault(self.election(*words), 9, f"election.db: {said}")
+        for typed in commands or ["count"]:
+            with self.subTest(statement, typed=typed):
+                self.refused(typed, f"election.db: {said}")
         self.book.write_bytes(whole)
         for file, data in state.items():
             file.write_bytes(data)
@@ -642,9 +606,8 @@ class Rewritten(BookTest):
         # two are exchanged: as many have a ballot, and each line counts
         exchanged = f"UPDATE envelope SET elector = CASE envelope WHEN 5 THEN {numbers['dan']} ELSE {numbers['cleo']} END WHERE envelope IN (5, 6)"
         self.assert_changed(exchanged, said.format(5))
-        every = (("count",), ("close",), ("publish", "--force", "--because", "x"))
         other = "UPDATE elector SET name = 'zoe' WHERE name = 'cleo'"
-        self.assert_changed(other, said.format(5), every)
+        self.assert_changed(other, said.format(5), "count", "close", "publish --force --because x")
         self.done("close")
 
     def test_verdicts_are_those_of_debvote(self):
@@ -666,10 +629,8 @@ class Rewritten(BookTest):
         self.done("close")
         # after the close the ballots are compared with it, too
         self.made_whole("UPDATE envelope SET line = CAST('ada 4,3,2,1' AS BLOB) WHERE envelope = 1")
-        for words in (("count",), ("publish",)):
-            self.assert_fault(
-                self.election(*words), 9, "the ballots have the checksum", "and the close recorded"
-            )
+        for typed in ("count", "publish"):
+            self.refused(typed, "the ballots have the checksum", "and the close recorded")
 
     def test_a_row_that_names_a_row_that_is_not_there(self):
         """The chain is made whole over it, so that only what the rows name tells."""
@@ -679,7 +640,7 @@ class Rewritten(BookTest):
         }.items():
             whole = self.read("election.db")
             self.made_whole(statement)
-            self.assert_fault(self.election("log", "--check"), 9, said)
+            self.refused("log --check", said)
             self.book.write_bytes(whole)
 
     def test_what_no_command_can_read(self):
@@ -693,15 +654,9 @@ class Rewritten(BookTest):
         }.items():
             self.sql(statement)
             told = 0
-            for words in (
-                ("show", "ada"),
-                ("status",),
-                ("desk",),
-                ("roll",),
-                ("letters", "receipts"),
-            ):
-                ended = self.election(*words, given="")
-                with self.subTest(statement, words=words):
+            for typed in ("show ada", "status", "desk", "roll", "letters receipts"):
+                ended = self.election(typed)
+                with self.subTest(statement, typed=typed):
                     self.assertEqual(ended.status, 9 if ended.faults else 0, ended)
                     if ended.faults:
                         self.assert_fault(ended, 9, f"act {act} does not match its digest")
@@ -714,10 +669,10 @@ class Rewritten(BookTest):
             "UPDATE sealed SET data = CAST('title = 1' AS BLOB)",
         ):
             self.sql(statement)
-            for words in (("status",), ("desk",), ("held",)):
-                with self.subTest(statement, words=words):
-                    said = "election.db: the book is damaged, or another program changed it (its sealed poll is not in plain form)"
-                    self.assert_fault(self.election(*words, given=""), 9, said)
+            said = "election.db: the book is damaged, or another program changed it (its sealed poll is not in plain form)"
+            for typed in ("status", "desk", "held"):
+                with self.subTest(statement, typed=typed):
+                    self.refused(typed, said)
             self.book.write_bytes(whole)
 
     def test_triggers(self):
@@ -772,7 +727,7 @@ class OnTheDisk(BookTest):
     """What is brought to the disk, and in which order; an act that is cut off in its commit, or right after it."""
 
     def last_act(self) -> int:
-        ended = self.done("status", "--json")
+        ended = self.done("status --json")
         self.assertEqual(ended.faults, "")
         return json.loads(ended.output)["act"]
 
@@ -836,16 +791,16 @@ class OnTheDisk(BookTest):
         """What is done is reported: the signal comes when SQLite removes the journal."""
         journal = str(self.book.resolve()) + "-journal"
         self.write("more", "ben 1,2,3,4\n")
-        for ending, *words in (
+        for ending, typed in (
             ("INT", "desk"),
             ("TERM", "desk"),
             ("HUP", "desk"),
-            ("INT", "add", "--yes", "more"),
+            ("INT", "add --yes more"),
         ):
             before, inject = self.last_act(), f"inject=unlink:signal={ending}"
-            ended = self.traced("-P", journal, "-e", inject, words=words, given="ada 1,2,3,4\n")
+            ended = self.traced("-P", journal, "-e", inject, words=[typed], given="ada 1,2,3,4\n")
             self.assertEqual(self.last_act(), before + 1)
-            self.assertRegex(ended.output, r"(?m)^\d+ (counted|replaced)  (ada|ben): ", words)
+            self.assertRegex(ended.output, r"(?m)^\d+ (counted|replaced)  (ada|ben): ", typed)
         ended = self.traced("-P", journal, "-e", "inject=unlink:signal=INT", words=("close",))
         self.assert_fault(
             ended, 130, f"interrupted; act {self.last_act()} (close) was done, and nothing else"
@@ -888,7 +843,7 @@ class OnTheDisk(BookTest):
                     [("fsync", path), ("rename", path), ("fsync", str(pathlib.Path(path).parent))],
                 )
         # what can't take its place is gone
-        self.done("reopen", "--because", "x")
+        self.done("reopen --because x")
         (self.folder / "letters" / "closed.txt").unlink()
         self.calls("close", inject="rename:error=EIO:when=2")
         self.assertEqual(
@@ -924,7 +879,7 @@ class OnTheDisk(BookTest):
                 "strike"
             ) as act:
                 queries.strike_envelopes(act, [99])
-        self.assertIn("3 acts", self.done("log", "--check").output)
+        self.assertIn("3 acts", self.done("log --check").output)
 
 
 class Places(BookTest):
@@ -933,15 +888,13 @@ class Places(BookTest):
     def test_no_book(self):
         self.assert_fault(self.election("status", cwd=self.folder / "call"), 2, "one folder up")
         self.assert_fault(self.election("status", cwd=self.scratch), 2, "no election.db")
-        self.assert_fault(
-            self.election("status", "--folder", "nowhere"), 2, "nowhere", "no such folder"
-        )
+        self.refused("status --folder nowhere", "nowhere", "no such folder", status=2)
 
     def test_other_databases(self):
         with sqlite3.connect(self.folder / "other.db") as connection:
             connection.execute("CREATE TABLE a (b)")
         (self.folder / "other.db").replace(self.book)
-        self.assert_fault(self.election("status"), 2, "another program")
+        self.refused("status", "another program", status=2)
         with sqlite3.connect(self.book) as connection:
             connection.execute(f"PRAGMA application_id = {0x64627674}")
             connection.execute("PRAGMA user_version = 2")
@@ -952,8 +905,8 @@ class Places(BookTest):
         self.write("more", "hal 1,2,3,4\n")
         before = self.contents()
         said = "it is a book of version 2, and this program writes version 1"
-        for words in (("status",), ("add", "--yes", "more")):
-            self.assert_fault(self.election(*words), 2, said, elections.nothing_by(words))
+        for typed, nothing in (("status", "changed"), ("add --yes more", "added")):
+            self.refused(typed, said, f"nothing was {nothing}", status=2)
             self.assertEqual(self.contents(), before)
 
     def test_damaged(self):
@@ -962,9 +915,10 @@ class Places(BookTest):
         for damage in (b"words " * 1000, cut_off, zeros, b""):
             with self.subTest(damage[:20]):
                 self.book.write_bytes(damage)
-                self.assert_fault(self.election("status"), 9, "election.db")
+                self.refused("status", "election.db")
                 self.assertEqual(self.book.read_bytes(), damage)
 
+    @pytest.mark.whole
     def test_read_only_folder(self):
         self.add("ada 1,2,3,4")
         for file in (*self.folder.rglob("*"), self.state, *self.state.rglob("*")):
@@ -975,8 +929,8 @@ class Places(BookTest):
         self.assertEqual(ended.status, 0, ended)
         self.assertIn("Lines: 1", ended.output)
         self.assertEqual(self.without_rights("count").status, 0)
-        for words in (("close",), ("count", *MOVED)):
-            self.assert_fault(self.without_rights(*words), 7, "is not writable")
+        for typed in ("close", f"count {MOVED}"):
+            self.assert_fault(self.without_rights(*shlex.split(typed)), 7, "is not writable")
 
     def test_read_only_folder_in_which_an_act_was_cut_off(self):
         """Both files together are the book: the act is taken back where that can be written."""
@@ -1007,10 +961,9 @@ class Places(BookTest):
         # as if the folder was moved to another disk
         self.state = self.scratch / "other state"
         before = self.contents()
-        for words in (("add", "--yes", *MOVED, "more"), ("new", "another")):
-            ended = self.run_program(
-                "env", f"LD_PRELOAD={library}", sys.executable, elections.ELECTION, *words
-            )
+        preloaded = "env", f"LD_PRELOAD={library}", sys.executable, elections.ELECTION
+        for typed in (f"add --yes {MOVED} more", "new another"):
+            ended = self.run_program(*preloaded, *shlex.split(typed))
             self.assertEqual(ended.status, 9, ended)
             self.assertIn("locks do not work", ended.faults)
             self.assertEqual(self.contents(), before)

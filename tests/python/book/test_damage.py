@@ -11,6 +11,8 @@ import random
 import sys
 from unittest import mock
 
+import pytest
+
 from debvote_tools.book import queries
 from debvote_tools.book.book import open_book
 from debvote_tools.cli.faults import Fault
@@ -19,8 +21,9 @@ from tests.support import elections
 from tests.support.questions import QuestionsTest
 
 DAMAGES = int(os.environ.get("DEBVOTE_DAMAGES", "400"))
-# of each so many one is shown to the commands, too
-SHOWN = 10
+# how many classes there are, so that they run side by side; of each so many damages of a class one
+# is shown to the commands, too
+CLASSES, SHOWN = min(4, 1 + DAMAGES // 100), 10
 
 LINES = 300
 RANKS = ["1,2,3,4", "2,1,3,4", "-,-,1,2", "1,1,1,1", "4,3,2,1"]
@@ -94,20 +97,19 @@ class Damaged(elections.ElectionTest):
         chance = random.Random(1)
         lines = [f"{chance.choice(self.names)} {chance.choice(RANKS)}" for _ in range(LINES)]
         self.write("lines", "".join(f"{line}\n" for line in lines))
-        self.done("add", "--yes", "lines")
+        self.done("add --yes lines")
         for number, name in enumerate(self.names):
             head = f"From: {name}@club.example\nMessage-ID: <{number}@x>\nSubject: x\n"
             self.write(f"{number}.eml", f"{head}\n{name} 1,2,3,4\n")
         self.done("add", "--yes", *(f"{number}.eml" for number in range(len(self.names))))
-        self.done("held", 1, "--set-aside")
-        self.done("strike", 7, "--because", "it was taken down wrongly")
-        self.done("letters", "receipts")
+        self.done("held 1 --set-aside")
+        self.done("strike 7 --because 'it was taken down wrongly'")
+        self.done("letters receipts")
 
     def seeds(self, first: int):
         book = self.folder / "election.db"
         whole, before = book.read_bytes(), content(book)
-        silent = 0
-        for seed in range(first, DAMAGES, 4):
+        for seed in range(first, DAMAGES, CLASSES):
             chance, data = random.Random(seed), bytearray(whole)
             kind = chance.choice(KINDS)
             kind(data, chance)
@@ -118,30 +120,22 @@ class Damaged(elections.ElectionTest):
                 self.assertIn("election.db: ", str(fault.words), (seed, kind))
                 found = None
             if found is not None:
-                silent += 1
                 self.assertEqual(found, before, (seed, kind))
-            if seed // 4 % SHOWN == 0:
+            if seed // CLASSES % SHOWN == 0:
                 self.show(bytes(data), seed)
-        print(f"of {len(range(first, DAMAGES, 4))} damages {silent} change nothing that counts")
 
     def show(self, data: bytes, seed: int):
         """Each command ends in order, or with lines that say what is the matter."""
-        for words in (
-            ("status",),
-            ("show", "ada"),
-            ("held",),
-            ("log",),
-            ("count",),
-            ("add", "--yes", "lines"),
-        ):
+        for typed in ("status", "show ada", "held", "log", "count", "add --yes lines"):
             (self.folder / "election.db").write_bytes(data)
-            ended = self.election(*words)
+            ended = self.election(typed)
             self.assertIn(ended.status, (0, 1, 2, 3, 4, 7, 9, 10), (seed, ended))
-            self.assertNotIn("Traceback", ended.faults, (seed, words))
+            self.assertNotIn("Traceback", ended.faults, (seed, typed))
             for line in ended.faults.splitlines():
-                self.assertRegex(line, r"\A(debvote-election|debvote|Note|Next|\s)", (seed, words))
+                self.assertRegex(line, r"\A(debvote-election|debvote|Note|Next|\s)", (seed, typed))
 
 
+@pytest.mark.whole
 class OfQuestions(QuestionsTest):
     def test_nothing_is_said_above_the_fault(self):
         """A page is damaged that is read while one question is seen alone."""
@@ -158,8 +152,7 @@ class OfQuestions(QuestionsTest):
         self.assertEqual(ignored, [])
 
 
-# a class for each part, so that they run side by side
-for first in range(4):
+for first in range(CLASSES):
     globals()[f"Damaged{first}"] = type(
         f"Damaged{first}",
         (Damaged,),

@@ -5,11 +5,14 @@ import random
 import subprocess
 import time
 
+import pytest
+
 from tests.support import elections
 
 LINES = 10
 
 
+@pytest.mark.whole
 class EightDesks(elections.ElectionTest):
     def at_desk(self, name: str, killed_after: int | None, told: dict[int, str]) -> int:
         """Types the ballots of an elector, each after the reply to the one before, and returns how many."""
@@ -44,4 +47,4 @@ class EightDesks(elections.ElectionTest):
         self.assertEqual({number: entered[number - 1] for number in told}, told)
         # a desk that was killed has entered one line more at most
         self.assertLessEqual(len(entered), len(told) + 2)
-        self.assertEqual(self.done("log", "--check").faults, "")
+        self.assertEqual(self.done("log --check").faults, "")

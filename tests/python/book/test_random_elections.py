@@ -11,9 +11,7 @@ model.
 
 import copy
 import dataclasses
-import email
 import datetime
-import functools
 import hashlib
 import itertools
 import os
@@ -29,15 +27,13 @@ from debvote_tools.text.times import time_in_words
 
 from tests.support import elections, letters, page_parts, sealing
 from tests.support.boxes import link_in
-from tests.support.election_books import LettersTest
-from tests.support.questions import QuestionsTest, in_words, one_line
+from tests.support.election_books import LettersTest, spread, text_in
+from tests.support.questions import FORCED, QuestionsTest, in_words, one_line
 from tests.support.web_host import Liar, answered
-
-FORCED = ("--force", "not-tied", "--force", "voted-since")
 
 # how many elections are held, half of them of one question, and of how many commands each
 ELECTIONS = int(os.environ.get("DEBVOTE_ELECTIONS", "24"))
-LENGTH = 40
+LENGTH = int(os.environ.get("DEBVOTE_COMMANDS", "40"))
 
 # the system calls that change something, before any of which a run is killed, and how many a
 # command makes at most; those that fail on a full disk; and the statuses of a run that is cut off
@@ -64,13 +60,6 @@ Answers = dict[str, str]
 
 def is_right(label: str, ranks: str) -> bool:
     return ranks.count(",") == RANKS[label][0].count(",")
-
-
-def text_in(file: pathlib.Path) -> str:
-    """The text of a letter to an elector, on one line."""
-    return " ".join(
-        email.message_from_bytes(file.read_bytes()).get_payload(decode=True).decode().split()
-    )
 
 
 def sentence(number: int, one: str, many: str) -> str:
@@ -428,9 +417,9 @@ class Model:
 
 @dataclasses.dataclass
 class Step:
-    """A command, what it is given, its status, and what else holds after it."""
+    """A command as it is typed, what it is given, its status, and what else holds after it."""
 
-    words: list[str]
+    typed: str
     given: str | None = None
     statuses: tuple[int, ...] = (0,)
     check: Callable[[str], None] = lambda _: None
@@ -443,7 +432,7 @@ class Played:
     is_secret = False
     members = elections.members_of(elections.NAMES).replace(f"{COUPLE[1]}@", f"{COUPLE[0]}@")
     # of the web host: what it answers to an asking above the records of the clicks, and when; its page; the key of that
-    begun, time, records, page, seal, links = "", "", "", b"", "", dict[str, str]()
+    begun, time, records, page, seal, links = "", "", "", b"", "", {}
 
     @classmethod
     def setUpClass(cls):
@@ -466,8 +455,8 @@ class Played:
         cls.page = (folder / "call/index.html").read_bytes()
         [cls.seal] = re.findall('data-seal="(.*?)"', cls.page.decode())
         self.set_time(CALLED)
-        for words in (["add", "--box"], ["letters", "call"]):
-            self.done(*words, cwd=folder)
+        for typed in ("add --box", "letters call"):
+            self.done(typed, cwd=folder)
         found = (link_in(file.read_bytes()) for file in (folder / "letters/call").rglob("*.eml"))
         cls.links = {link[0]: "/".join(link) for link in found}
         return folder
@@ -483,10 +472,10 @@ class Played:
 
     def entering(self, model: Model) -> Step:
         """Lines of a file or of a desk. After a close that was taken back it has to be said whether they had come in time."""
-        is_of_file, is_late, words = self.chance.random() < 0.6, model.is_closed, list[str]()
+        is_of_file, is_late, came = self.chance.random() < 0.6, model.is_closed, ""
         if model.closes and not is_late:
             is_late = self.chance.random() < 0.5
-            words = ["--came-before-close", "no" if is_late else "yes"]
+            came = f"--came-before-close {'no' if is_late else 'yes'}"
         names = self.chance.choices([*VOTERS * 2, "nobody"], k=self.chance.randint(1, 4))
         given = [(name, self.ballot()) for name in names]
         for name, answers in given:
@@ -501,9 +490,9 @@ class Played:
         ballots = [(name, part, None) for name, whole in given for part in model.parts(name, whole)]
         new = model.new_of(ballots, is_late=is_late) if is_of_file else ballots
         model.enter(new, is_late=is_late, is_of_file=is_of_file)
-        command = ["add", "--yes", "-"] if is_of_file else ["desk"]
+        command = "add --yes -" if is_of_file else "desk"
         text = "".join(f"{one_line(*one)}\n" for one in given)
-        return Step([*command, "--force", *words], text)
+        return Step(f"{command} --force {came}", text)
 
     def mailing(self, model: Model) -> Step | None:
         """The whole mailbox, with some new letters, each with a second of its own."""
@@ -514,7 +503,7 @@ class Played:
             return None
         self.write("mail", letters.mailbox(*data))
         model.offer()
-        return Step(["add", "--yes", "mail"])
+        return Step("add --yes mail")
 
     def new_letter(self, model: Model) -> Letter:
         times = {model.now - datetime.timedelta(seconds=5 + 10 * slot) for slot in range(360)}
@@ -554,11 +543,11 @@ class Played:
         model.receive(model.clicks)
         model.asked, model.clicks = model.now, []
         model.offer(clicks_alone=True)
-        return Step(["add", "--box", "--yes"])
+        return Step("add --box --yes")
 
     def holding(self, model: Model) -> Step | None:
         """Ballots of letters are entered, or what was read in one is typed, of one or both who may have sent it."""
-        is_typed, how = self.chance.random() < 0.5, ["--enter"]
+        is_typed, how = self.chance.random() < 0.5, "--enter"
         found = model.of_letters(lambda one: one.answers and model.becomes(one) != "is done")
         found = model.of_letters(model.lacking) if is_typed else found
         # what was taken back is often entered again
@@ -574,15 +563,14 @@ class Played:
             names = model.lacking(chosen[0])
             names = self.chance.sample(names, self.chance.randint(1, len(names)))
             ballots = [(name, self.typed(model, chosen[0], name), chosen[0]) for name in names]
-            lines = [one_line(name, answers) for name, answers, _ in ballots]
-            how = [word for line in lines for word in ("--as", line)]
+            how = " ".join(f"--as '{one_line(name, answers)}'" for name, answers, _ in ballots)
         is_forced = len(chosen) == 1 and self.chance.random() < 0.6
-        numbers = [str(one.number) for one in chosen]
-        words = ["held", *numbers, *how, "--yes", *FORCED[: 4 * is_forced]]
+        numbers = " ".join(str(one.number) for one in chosen)
+        typed = f"held {numbers} {how} --yes {FORCED * is_forced}"
         if model.is_refused(ballots, is_typed=is_typed, is_forced=is_forced):
-            return Step(words, statuses=(9,))
+            return Step(typed, statuses=(9,))
         model.enter(ballots, is_late=model.is_late(chosen[0]), is_typed=is_typed)
-        return Step(words)
+        return Step(typed)
 
     def typed(self, model: Model, letter: Letter, name: str) -> Answers:
         """Any ballot, or one without the answers of which there are later ones."""
@@ -601,7 +589,7 @@ class Played:
         for one in chosen:
             one.state = state
         model.acts += 1
-        return Step(["held", *(str(one.number) for one in chosen), state])
+        return Step(f"held {' '.join(str(one.number) for one in chosen)} {state}")
 
     def undoing(self, model: Model) -> Step | None:
         """The last act of which a line stands: what was struck before stays struck."""
@@ -611,7 +599,7 @@ class Played:
         taken = [one for one in left if one.act == left[-1].act]
         model.take_out(taken, "undo")
         model.told.append(taken)
-        return Step(["undo", "--yes"])
+        return Step("undo --yes")
 
     def striking(self, model: Model) -> Step | None:
         left = [one for one in model.envelopes if not one.out]
@@ -621,7 +609,7 @@ class Played:
         model.take_out([one], "strike")
         said = f"The secretary struck envelope {one.number}: its line does not count."
         model.told.append(f"{said} {BECAUSE} it was torn")
-        return Step(["strike", str(one.number), "--because", "it was torn"])
+        return Step(f"strike {one.number} --because 'it was torn'")
 
     def timing(self, model: Model) -> Step:
         """A close, or its end; or an extension before the first close."""
@@ -630,17 +618,17 @@ class Played:
             model.acts += 1
             said = "The vote was opened again, for what had come before the first close."
             model.told.append(f"{said} {BECAUSE} a bag")
-            return Step(["reopen", "--because", "a bag"])
+            return Step("reopen --because 'a bag'")
         if not model.closes and self.chance.random() < 0.4:
             later = datetime.timedelta(minutes=self.chance.randint(1, 60))
             model.end = max(model.now, model.end).replace(second=0) + later
             model.acts += 1
             said = f"The time was extended: one could vote until {time_in_words(model.end)}."
             model.told.append(said)
-            return Step(["call", "--until", f"{model.end:%Y-%m-%d %H:%M}", "--zone", "UTC"])
-        early = ["--early"] if model.now < model.end else []
+            return Step(f"call --until '{model.end:%Y-%m-%d %H:%M}' --zone UTC")
+        early = "--early" if model.now < model.end else ""
         model.close()
-        return Step(["close", *early, "--force", "--because", "it is time"])
+        return Step(f"close {early} --force --because 'it is time'")
 
     def telling(self, model: Model) -> Step:
         """A receipt to each of whom something came that none has told, with what counts of them."""
@@ -648,13 +636,13 @@ class Played:
         model.receipts |= untold
 
         def check(_: str):
-            new = {file.stem: text_in(file) for file in {*self.receipts()} - before}
+            new = {file.stem: text_in(file.read_bytes()) for file in {*self.receipts()} - before}
             self.assertEqual({*new}, {name for name, *_ in untold})
             for name, text in new.items():
                 counts = re.search("and it counts\\.|It counts unless", text)
                 self.assertEqual(bool(counts), bool(model.counting()[name]), text)
 
-        return Step(["letters", "receipts"], check=check)
+        return Step("letters receipts", check=check)
 
     def receipts(self) -> Iterable[pathlib.Path]:
         return self.folder.rglob("letters/receipts/*/*.eml")
@@ -662,17 +650,17 @@ class Played:
     def counting(self, model: Model) -> Step | None:
         """The sheet of a question of a vote that was never closed."""
         label = self.chance.choice(self.labels)
-        words = ["count", "--force", *(["--question", label] if label else [])]
+        typed = f"count --force --question {label}" if label else "count --force"
         if model.closes:
             return None
         if self.is_secret:
-            return Step(words, statuses=(9,))
+            return Step(typed, statuses=(9,))
         place, lines = f"call/{label}/poll.toml", model.lines(label)
 
         def check(output: str):
             self.assertEqual(output, self.sheet_of(label, lines, poll=self.read(place)))
 
-        return Step(words, statuses=(0, 1), check=check)
+        return Step(typed, statuses=(0, 1), check=check)
 
     # ---- a run
     def acts(self) -> int:
@@ -693,10 +681,10 @@ class Played:
                 self.publish(model)
         while not model.is_closed:
             step = self.timing(model)
-            self.done(*step.words)
+            self.done(step.typed)
         self.publish(model)
         self.demand_letters(model)
-        self.done("log", "--check")
+        self.done("log --check")
 
     def kinds(self, before: Model) -> list[Callable[[Model], Step | None]]:
         """The acts, each as often as its share."""
@@ -718,16 +706,16 @@ class Played:
             step = self.chance.choice(kinds)(after)
         ended, kind = None, self.chance.random()
         if kind < 0.65:
-            ended = self.election(*step.words, given=step.given)
+            ended = self.election(step.typed, given=step.given)
         else:
             full = f"{WRITES}:error=ENOSPC:when={self.chance.randint(1, 20)}+"
             kill = f"{CHANGES}:signal=KILL:when={self.chance.randint(1, MAX_CALLS)}"
             how = "-e", f"inject={kill if kind < 0.9 else full}"
-            ended = self.traced(*how, words=step.words, given=step.given or "")
+            ended = self.traced(*how, words=[step.typed], given=step.given or "")
         is_cut_off = ended.status in CUT_OFF
-        if is_cut_off and step.words[0] in ("add", "call", "letters"):
+        if is_cut_off and step.typed.startswith(("add", "call", "letters")):
             # what keeps letters, or writes files, before its act is repeated
-            ended, is_cut_off = self.election(*step.words, given=step.given), False
+            ended, is_cut_off = self.election(step.typed, given=step.given), False
         done = self.acts()
         model = after if done == after.acts else before
         self.assertEqual(done, model.acts, (step, ended))
@@ -736,7 +724,7 @@ class Played:
             self.assertIn(ended.status, step.statuses, (step, ended))
             step.check(ended.output)
         self.demand_replies(
-            before, model, ended.output, is_whole=step.words[0] == "desk" and not is_cut_off
+            before, model, ended.output, is_whole=step.typed.startswith("desk") and not is_cut_off
         )
         self.demand(model, (step, ended))
         return model
@@ -781,8 +769,8 @@ class Played:
             return
         name = f"result-{len(model.earlier)}"
         self.write("about", f"This is publication {len(model.earlier)}.\n")
-        words = ["--about", "about", "--force", "--yes", "--because", "it is wanted", name]
-        ended = self.election("publish", *words)
+        typed = f"publish --about about --force --yes --because 'it is wanted' {name}"
+        ended = self.election(typed)
         self.assertIn(ended.status, (0, 1), ended)
         sheets = [
             self.demand_published(model, label, self.folder / name / label) for label in self.labels
@@ -828,7 +816,7 @@ class Played:
     def demand_told(self, model: Model, folder):
         """Page and letter tell each act, and each earlier result."""
         page = (folder / "index.html").read_text()
-        letter = " ".join(self.read("letters/result.txt").decode().split())
+        letter = self.text("letters/result.txt")
         done = page_parts.sections_of(page)["What-was-done"]
         told = [item.text().partition("): ")[2] for item in done.all("li")]
         told += [text.text() for text in done.all("p") if "after the end" in text.text()]
@@ -846,11 +834,12 @@ class Played:
 
     def demand_letters(self, model: Model):
         """The letter of the result has the ballot that counts, and so has `show`."""
-        self.done("letters", "result", "--force", "--because", "x")
+        self.done("letters result --force --because x")
         for name, answers in model.counting().items():
             files = self.folder.rglob(f"letters/result/*/{name}.eml")
-            letter = text_in(max(files, key=lambda file: int(file.parent.name)))
-            shown = " ".join(self.done("show", "--yes", name).output.split())
+            last = max(files, key=lambda file: int(file.parent.name))
+            letter = text_in(last.read_bytes())
+            shown = " ".join(self.done(f"show --yes {name}").output.split())
             if not answers:
                 self.assertIn("The result has no ballot of yours that counts.", letter)
                 self.assertRegex(shown, "The current ballot: none|nothing came")
@@ -874,18 +863,8 @@ class ThreeQuestions(Played, QuestionsTest):
 class SecretVote(ThreeQuestions):
     is_secret = True
     polls = {label: f"{poll}secret = true\n" for label, poll in QuestionsTest.polls.items()}
-    poll = "".join(polls.values())
 
 
 KINDS = [OneQuestion, ThreeQuestions, OneQuestion, SecretVote]
 
-# a class for each few elections, so that they run side by side
-for seed in range(ELECTIONS):
-    kind = KINDS[seed % 4]
-    name = f"{kind.__name__}{seed // 8}"
-    setattr(
-        globals().setdefault(name, type(name, (kind,), {})),
-        f"test_{seed}",
-        functools.partialmethod(kind.played, seed),
-    )
-del seed, kind, name
+spread(globals(), KINDS, ELECTIONS)

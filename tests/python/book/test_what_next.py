@@ -7,20 +7,21 @@ says, and the letters, which find by themselves what is due, have nothing to add
 """
 
 import datetime
-import functools
 import itertools
 import os
 import random
 import re
 import shlex
+import tomllib
 from collections.abc import Callable
 
 from tests.support import elections, letters
+from tests.support.election_books import spread
 from tests.support.outgoing import SendTest, parsed
 from tests.support.questions import QuestionsTest, one_line
 
-# how many elections are held
-ELECTIONS = int(os.environ.get("DEBVOTE_ELECTIONS", "12"))
+# half as many elections as test_random_elections holds
+ELECTIONS = int(os.environ.get("DEBVOTE_ELECTIONS", "24")) // 2
 # more commands than any `Next:` leads to before it names a time
 MOST = 40
 
@@ -31,7 +32,7 @@ NAMES = elections.NAMES[:5]
 ON_PAPER = NAMES[-1]
 RANKS = {"": ["1,2,3,4", "2,1,3,4"], "A": ["1,2", "2,1"], "B": ["1,2,3", "2,1,3"]}
 RANKS["C"] = RANKS[""]
-BECAUSE = ("--because", "it was so")
+BECAUSE = "--because 'it was so'"
 
 # the command that a step names first, with what is to be written in place of words
 COMMAND = re.compile(r"debvote-election ((?:'[^']*'|(?!; |, | \(| or debvote-election ).)*)")
@@ -60,10 +61,10 @@ class Followed:
         self.chance = random.Random(seed)
         # the electors of whom something came, or was taken out, whom no receipt has told of it; those
         # whose letters were refused once, and come later; and the letters that came
-        self.touched, self.refused = set[str](), set[str]()
-        self.letters, self.backups, self.moves = list[bytes](), 0, 0
+        self.touched, self.refused = set(), set()
+        self.letters, self.backups, self.moves = [], 0, 0
         # a part of each subject that an elector has to get
-        self.due = {name: list[str]() for name in self.addresses}
+        self.due = {name: [] for name in self.addresses}
         self.pass_time(datetime.timedelta(minutes=1))
         self.all_get("Vote: ")
         self.follow()
@@ -82,11 +83,11 @@ class Followed:
         for closes in range(self.chance.randint(1, 3)):
             if closes:
                 self.pass_time(datetime.timedelta(minutes=5))
-                self.done("reopen", *BECAUSE)
+                self.done(f"reopen {BECAUSE}")
                 self.watched(lambda: self.cast("--came-before-close", "yes"))
             self.all_get("Vote closed: ")
             self.follow()
-        self.done("log", "--check")
+        self.done("log --check")
 
     def pass_time(self, time: datetime.timedelta):
         self.time += time
@@ -116,7 +117,7 @@ class Followed:
 
     def add(self):
         lines = {self.ballot() for _ in range(self.chance.randint(1, 3))}
-        self.done("add", "--force", "-", given="".join(f"{line}\n" for line in lines))
+        self.done("add --force -", given="".join(f"{line}\n" for line in lines))
 
     def cast(self, *came: str):
         self.done("desk", *came, given=f"{self.ballot()}\n")
@@ -137,15 +138,15 @@ class Followed:
         self.letters.append(self.of_this_vote(letters.marked(name, f"{text}\n", **how)))
         self.touched.add(name)
         self.write("mail", letters.mailbox(*self.letters))
-        self.done("add", "--yes", "mail")
+        self.done("add --yes mail")
 
     def undo(self):
         if self.standing():
-            self.done("undo", "--yes")
+            self.done("undo --yes")
 
     def strike(self):
         if standing := self.standing():
-            self.done("strike", self.chance.choice(standing), *BECAUSE)
+            self.done(f"strike {self.chance.choice(standing)} {BECAUSE}")
 
     def move(self):
         """Another end, or another address, to which the call goes anew, and receipts to both."""
@@ -161,7 +162,7 @@ class Followed:
         self.moves += 1
         self.addresses[name] = f"{name}@{self.moves}.example"
         self.write("members.csv", self.members)
-        self.done("roll", "--yes")
+        self.done("roll --yes")
         self.due[name] = ["Vote: "]
 
     # ---- what the secretary does
@@ -212,7 +213,7 @@ class Followed:
         ended = self.election(*words)
         if words[0] == "publish" and ended.status == 9:
             # another casting vote than before a reopening
-            ended = self.election(*words, "--force", *BECAUSE)
+            ended = self.election(f"{shlex.join(words)} --force {BECAUSE}")
         # a tie; letters that were refused
         allowed = {"count": (0, 1), "publish": (0, 1), "letters": (0, 9)}.get(words[0], (0,))
         self.assertIn(ended.status, allowed, (words, following, ended))
@@ -220,9 +221,8 @@ class Followed:
 
     def left_of(self, label: str) -> str:
         ended = self.last("publish")["ended"][label]
-        names = {"A": ["Yes, 72 Euro", "No, as it is"], "B": ["Ada Lovelace", "Mary Somerville"]}
-        names["C"] = ["Slate", "Tiles"]
-        return names[label][ended["left"][0] - 1]
+        poll = tomllib.loads(self.polls[label])
+        return [*poll["options"], poll["default"]][ended["left"][0] - 1]
 
     def decide(self):
         """Of each letter that waits, after its receipt or before it."""
@@ -246,9 +246,9 @@ class Followed:
             parts.clear()
         self.touched.clear()
         nothing = "There is no letter to send|No other letter is to be sent"
-        self.assertRegex(self.done("letters", "receipts").output, nothing)
+        self.assertRegex(self.done("letters receipts").output, nothing)
         self.server.rcpt_answers.clear()
-        self.done("letters", "--send")
+        self.done("letters --send")
         more = {one.to.partition("@")[0] for one in self.server.taken[len(taken) :]}
         self.assertLessEqual(more, self.refused)
         self.server.taken.clear()
@@ -269,13 +269,4 @@ class ThreeQuestions(Followed, QuestionsTest, SendTest):
 
 KINDS = [OneQuestion, ThreeQuestions, SecretVote]
 
-# a class for each few elections, so that they run side by side
-for seed in range(ELECTIONS):
-    kind = KINDS[seed % 3]
-    name = f"{kind.__name__}{seed // 6}"
-    setattr(
-        globals().setdefault(name, type(name, (kind,), {})),
-        f"test_{seed}",
-        functools.partialmethod(kind.played, seed),
-    )
-del seed, kind, name
+spread(globals(), KINDS, ELECTIONS)

@@ -25,7 +25,6 @@ from debvote_tools.call.box import (
 from debvote_tools.cli.faults import Fault
 from debvote_tools.inbox.box_records import MOST
 from debvote_tools.poll.sealed import OWN_LENGTH, OWN_SIGNS, new_own_mark
-from debvote_tools.text.rendering import resources
 
 MARK, KEY = "1ac5041b936c7fc1", bytes(range(32))
 OWNS = {"ada": "23456789ab", "ben-lee": "3456789abc", "m.12": "456789abcd"}
@@ -131,10 +130,6 @@ class Scripts(unittest.TestCase):
         secrets = [KEY.hex(), asking_word(KEY), *OWNS.values(), *links, "ben-lee", "m.12"]
         for secret in (KEY, *map(str.encode, secrets)):
             self.assertNotIn(secret, script)
-
-    def test_what_the_page_runs_to_send_is_short(self):
-        """Whoever reads it sees what is sealed, and that nothing else is sent."""
-        self.assertLessEqual(len(resources("debvote_tools.call", "box.js").encode()), 6_700)
 
     def test_as_many_records_of_a_link_are_kept_as_the_script_takes(self):
         """More would be acknowledged, and passed over."""

@@ -147,6 +147,9 @@ class Files(unittest.TestCase):
             (changed(at=None, to=None), "Send your ballot as the secretary announces. "),
         ):
             self.assertIn(said, page_of(data))
+        for text in (letter_of(CALL), call_letter(CALL, is_extension=True)):
+            self.assertIn("then the subject has your own mark", as_read(text))
+            self.assertNotIn("in a letter whose subject ends with", as_read(text))
         subject = urllib.parse.quote(f"Ballot: Wohin? {mark}")
         links = re.findall('href="(mailto:[^"]*)"', html_of(signed))
         self.assertEqual(links, [f"mailto:vote%2Bclub@example.org?subject={subject}"])
@@ -354,46 +357,22 @@ class Hostile(unittest.TestCase):
 
 class Addresses(unittest.TestCase):
     def test_web_addresses(self):
-        for good in (
-            PAGE,
-            "http://x",
-            "https://example.org:8443/a/b?c=d",
-            "https://xn--bcher-kva.example/",
-            "http://[::1]:80/",
-            "https://[::1]/",
-            "https://x:/",
-            "https://127.0.0.1/~ada/",
-            f"https://{'x' * 492}",
-        ):
+        right = (
+            "http://x|https://example.org:8443/a/b?c=d|https://xn--bcher-kva.example/|"
+            "http://[::1]:80/|https://[::1]/|https://x:/|https://127.0.0.1/~ada/"
+        )
+        for good in (PAGE, *right.split("|"), f"https://{'x' * 492}"):
             demand_web_address(good)
-        for bad in (
-            "",
-            "example.org",
-            "ftp://example.org/",
-            "javascript:alert(1)",
-            "https://",
-            "https:///x",
-            "https://bank.example@evil.example/",
-            "https://bank.example:x@evil.example/",
-            "https://ada:@example.org/",
-            PAGE + "#a",
-            PAGE + "\n",
-            "https://example.org/ x",
-            'https://example.org/"',
-            "https://example.org/<b>",
-            "https://b\u00fccher.example/",
-            "https://example.org:0/",
-            "https://example.org:x/",
-            "https://example.org:99999/",
-            "https://[::1",
-            "https://a\\b/",
-            "https://example.org/" + "x" * 500,
-            "https://?x",
-            "https://-/",
-            " " + PAGE,
-            f"https://{'x' * 493}",
-            "httpx://example.org/",
-        ):
+        wrong = (
+            "|example.org|ftp://example.org/|javascript:alert(1)|https://|https:///x|"
+            "https://bank.example@evil.example/|https://bank.example:x@evil.example/|"
+            "https://ada:@example.org/|https://example.org/ x|https://example.org/<b>|"
+            "https://b\u00fccher.example/|https://example.org:0/|https://example.org:x/|"
+            'https://example.org:99999/|https://[::1|https://a\\b/|https://example.org/"|'
+            "https://?x|https://-/|httpx://example.org/"
+        )
+        long = (f"https://{'x' * 493}", "https://example.org/" + "x" * 500)
+        for bad in (*wrong.split("|"), PAGE + "#a", PAGE + "\n", " " + PAGE, *long):
             with self.subTest(bad=bad), self.assertRaisesRegex(
                 Fault, "^.*--at: it must be the address of a page, as https://"
             ) as caught:
@@ -413,21 +392,11 @@ class Addresses(unittest.TestCase):
         for good in (ADDRESS, "a@b", "_x@example.org", "a@" + "b" * 252):
             demand_mail_address(good)
         self.assertEqual(named_address(f"{'x' * 100} <a@b.org>"), ("x" * 100, "a@b.org"))
-        for bad in (
-            "",
-            "a",
-            "a@b@c",
-            "a@b, c@d",
-            "a@b\nBcc: c@d",
-            "-a@b",
-            "Ada <a@b.org>",
-            "a@b.org\n",
-            "a b@c.org",
-            "a@b..c",
-            "a,b@c.org",
-            "\u00e4@b.org",
-            "a@" + "b" * 253,
-        ):
+        wrong = (
+            "|a|a@b@c|a@b, c@d|a@b\nBcc: c@d|-a@b|Ada <a@b.org>|a@b.org\n|a b@c.org|a@b..c|a,b@c.org|"
+            "\u00e4@b.org"
+        )
+        for bad in (*wrong.split("|"), "a@" + "b" * 253):
             with self.subTest(bad=bad), self.assertRaisesRegex(
                 Fault, "--to: it must be one mail address"
             ):

@@ -57,6 +57,12 @@ class DraftTest(unittest.TestCase):
             self.write(f"texts/{name}", text)
         return self.found()
 
+    def sound(self, poll: str | bytes) -> DraftPoll:
+        """A draft in which nothing is wrong but what debvote says of it."""
+        draft = self.draft(poll)
+        self.assertEqual(draft.faults, [])
+        return draft
+
     def found(self) -> DraftPoll:
         return draft_in(Election(self.folder, elections.PROGRAM.parent))
 
@@ -142,7 +148,7 @@ class Explained(DraftTest):
             "wording": "false",
             "options ": "true",
         }
-        keys = ("title", "options", "ratios", "default", "quorum")
+        keys = "title options ratios default quorum".split()
         cases = [
             (PLAIN.replace("title", "# title"), missing("title")),
             (
@@ -159,9 +165,7 @@ class Explained(DraftTest):
             cases.append((f"{others}{key} = {value}\n", f"key {key.strip()}: "))
         for poll, *wanted in cases:
             with self.subTest(poll):
-                draft = self.draft(poll)
-                self.assertEqual(draft.faults, [])
-                found = re.findall("(?m)^poll: (.*)", self.explained(draft))
+                found = re.findall("(?m)^poll: (.*)", self.explained(self.sound(poll)))
                 for part in wanted:
                     self.assertTrue(any(line.startswith(part) for line in found), found)
                 # a value of a wrong type may be told with what it makes of others
@@ -200,9 +204,8 @@ class Faults(DraftTest):
         self.assertNotIn(b"deadline", sealed_form(draft, ROLL, "de"))
 
     def test_keys_that_no_poll_has(self):
-        draft = self.draft(GERMAN.replace("quorum", "qorum") + '"a \\" =\u00e4" = [1]\n')
-        self.assertEqual(draft.faults, [])
-        found = self.explained(draft)
+        poll = GERMAN.replace("quorum", "qorum") + '"a \\" =\u00e4" = [1]\n'
+        found = self.explained(self.sound(poll))
         for part in (
             "poll: key quorum: it is missing",
             "poll: key qorum is not read; did you mean quorum?",
@@ -322,9 +325,7 @@ class Texts(DraftTest):
 
 class Confusing(DraftTest):
     def faults(self, poll: str, language: str = "de") -> list[object]:
-        draft = self.draft(poll)
-        self.assertEqual(draft.faults, [])
-        return list(faults_of_names(draft, ROLL, language))
+        return list(faults_of_names(self.sound(poll), ROLL, language))
 
     def test_nothing_is_wrong(self):
         # a line that reads as a ballot is parted off where it goes out
@@ -365,12 +366,10 @@ class NewPoll(DraftTest):
             tomllib.loads(text), {"title": "", "options": [], "ratios": [], "default": ""}
         )
         self.assertLess(max(map(len, text.splitlines())), 111)
-        self.assertEqual(self.draft(text).faults, [])
+        self.sound(text)
         examples = re.findall(r"(?m)^#     (\w+)( = .*)$", text)
-        self.assertEqual(
-            [key for key, _ in examples],
-            ["options", "ratios", "default", "title", "options", "ratios", "default", "motion"],
-        )
+        keys = "options ratios default title options ratios default motion"
+        self.assertEqual([key for key, _ in examples], keys.split())
         for options, given in ((4, [("title", ' = "Frühling"'), *examples[:3]]), (2, examples[3:])):
             # a poll that is no motion has no line for it
             filled = text + "motion =\n"
@@ -380,8 +379,7 @@ class NewPoll(DraftTest):
             for line in ("quorum = 1", 'wording = "more_than"', "secret = true"):
                 self.assertEqual(filled.count(f"\n# {line}\n"), 1)
                 filled = filled.replace(f"\n# {line}\n", f"\n{line}\n")
-            draft = self.draft(filled)
-            self.assertEqual(draft.faults, [])
+            draft = self.sound(filled)
             self.assertIn(f"poll ok: {options} options, 3 electors", self.explained(draft))
             self.assertEqual(seal(draft, ROLL, "en").secret, True)
             self.assertEqual(draft.values.get("motion"), True if options == 2 else None)

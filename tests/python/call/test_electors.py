@@ -3,6 +3,8 @@
 import unittest
 from collections.abc import Iterable
 
+import pytest
+
 from debvote_tools.book.queries import Elector
 from debvote_tools.call.members import Member, Roll, roll_of
 from debvote_tools.cli.faults import Fault
@@ -106,11 +108,13 @@ class Proposals(RollTest):
         roll = self.roll("Ann", "Other;;ann")
         self.assertEqual([elector.proposal for elector in roll.electors], ["ann", ""])
 
-    def test_ten_thousand_of_one_name(self):
+    @pytest.mark.whole
+    def test_ten_thousand_of_one_name_and_one_too_many(self):
         marks = str.maketrans("01", "!?")
-        rows = [f"Ann {number:b}".translate(marks) for number in range(10_000)]
-        names = names_of(self.roll(*rows).electors)
+        rows = [f"Ann {number:b}".translate(marks) for number in range(10_001)]
+        names = names_of(self.roll(*rows[1:]).electors)
         self.assertEqual((names[0], names[-1], len({*names})), ("ann-1", "ann-10000", 10_000))
+        self.assert_faults(self.roll(*rows), ("it has 10001 members; at most 10000 are allowed",))
 
 
 class Known(RollTest):
@@ -186,12 +190,6 @@ class Known(RollTest):
         self.assert_faults(
             roll, (":4: lines 2, 4 have the same name: x",), (":4: lines 2, 4 have the same key",)
         )
-
-    def test_too_many(self):
-        rows = [f"Elector {number}" for number in range(10_001)]
-        self.assert_faults(self.roll(*rows), ("it has 10001 members; at most 10000 are allowed",))
-        self.roll(*rows[1:])
-        self.assertEqual(self.faults, [])
 
     def test_the_faults_of_the_list_are_among_them(self):
         self.assert_faults(

@@ -32,11 +32,10 @@ class Checked(MotionTest):
     members = members_of(("ada", "ben")) + "Kim No,k@club.example\nEve Ja,e@club.example\n"
 
     def test_what_is_shown(self):
-        said = self.told("check")
-        self.assertIn("\nA motion, yes: Raise the fee to 72 Euro, no: No, as it is\n", said)
-        self.assertIn(
+        self.tells(
+            "check",
+            "\nA motion, yes: Raise the fee to 72 Euro, no: No, as it is\n",
             "\nNote: these real names end in a word of the motion, and a name is no ballot: Kim No\n",
-            said,
         )
         self.new_poll(("motion = true", "motion = false"))
         said = self.told("check")
@@ -60,15 +59,13 @@ class Checked(MotionTest):
         ):
             self.new_poll((before, after))
             if fault:
-                self.assert_fault(self.election("check"), 3, fault, "poll.toml")
+                self.refused("check", fault, "poll.toml", status=3)
             else:
                 self.told("check")
         self.new_poll()
         self.write("members.csv", "who,name,mail\nAda,ada,\nX,no,\nY,yes,\n")
         self.told("roll")
-        self.assert_fault(
-            self.election("check"), 3, "a name on the roll is a word of the motion: no, yes"
-        )
+        self.refused("check", "a name on the roll is a word of the motion: no, yes", status=3)
         self.new_poll(("motion = true\n", ""))
         self.told("check")
 
@@ -78,29 +75,29 @@ class Sealed(MotionTest):
         """The poll has the bytes that it has without, so debvote reads it as ever; and a call that
         was taken back says nothing of the next.
         """
-        self.told("call", "--to", "vote@club.example")
+        self.told("call --to vote@club.example")
         poll = self.read("call/poll.toml")
         self.assertNotIn(b"motion", poll)
         self.assertEqual(self.debvote("explain", "--poll", "call/poll.toml").status, 0)
         self.assertEqual(
             self.rows("SELECT name, data FROM sealed WHERE name = 'motion'"), [("motion", b"")]
         )
-        self.told("call", "--take-back")
+        self.told("call --take-back")
         self.new_poll(("motion = true\n", ""))
-        self.told("call", "--to", "vote@club.example")
+        self.told("call --to vote@club.example")
         self.assertEqual(self.read("call/poll.toml"), poll)
-        self.told("add", "--force", "-", given="ada yes\n")
-        self.assertIn("\n    bad shape: ", self.told("status"))
+        self.told("add --force -", given="ada yes\n")
+        self.tells("status", "\n    bad shape: ")
 
     def test_in_a_secret_vote(self):
         self.write("poll.toml", f"{self.poll}secret = true\n")
         self.told("codes")
-        self.told("call", "--to", "vote@club.example", "--yes")
-        self.told("add", "-", given="ada no\nben Abstain!\n")
-        self.assertEqual(self.lines(), ["ada 2,1", "ben 1,1"])
-        self.told("close", "--early", "--yes")
+        self.told("call --to vote@club.example --yes")
+        self.told("add -", given="ada no\nben Abstain!\n")
+        self.assert_lines("ada 2,1", "ben 1,1")
+        self.told("close --early --yes")
         self.told("publish")
-        letter = self.read("letters/result.txt").decode().replace("\n", " ")
+        letter = self.text("letters/result.txt")
         self.assertIn(
             "Winner: Option 2: No, as it is. 0 yes, 1 no. More had to say yes than no.", letter
         )
@@ -119,8 +116,8 @@ class InLetters(MotionTest):
             self.write("poll.toml", self.poll)
             self.write("members.csv", self.members)
             self.told("roll")
-            self.told("call", "--to", "vote@club.example")
-            self.told("letters", "call")
+            self.told("call --to vote@club.example")
+            self.told("letters call")
             texts = {name: data.decode("utf-8", "ignore") for name, data in self.contents().items()}
             said = f": {', '.join(words)})"
             for end, count in (("call.txt", 0), (".eml", 0), ("print.html", 1)):

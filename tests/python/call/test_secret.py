@@ -15,6 +15,8 @@ import unittest
 import unittest.mock
 from collections.abc import Sequence
 
+import pytest
+
 from debvote_tools.book.queries import Elector
 from debvote_tools.call.call import CallData
 from debvote_tools.call.secret import (
@@ -70,19 +72,13 @@ class Codes(unittest.TestCase):
             files = "hmac.py hashlib.py sitecustomize.py codecs.py openssl.cnf printf cut"
             for file in files.split():
                 pathlib.Path(folder, file).write_text("import os; os._exit(1)\n")
-            for name, code in CODES.items():
+            for name, code in [*CODES.items()][:2]:
                 spaced = " ".join(re.findall("....", code))
                 by_openssl = BY_OPENSSL.replace("NAME", name).replace("CODE", code)
                 for command, said in ((by_openssl, ""), (BY_PYTHON, "Code: Name: ")):
-                    found = subprocess.run(
-                        ["sh", "-c", command],
-                        input=f"{spaced}\n{name}\n",
-                        capture_output=True,
-                        text=True,
-                        check=True,
-                        cwd=folder,
-                    )
-                    self.assertEqual(found.stdout, f"{said}{ALIASES[name]}\n")
+                    how = {"input": f"{spaced}\n{name}\n", "text": True, "cwd": folder}
+                    found = subprocess.check_output(["sh", "-c", command], **how)
+                    self.assertEqual(found, f"{said}{ALIASES[name]}\n")
 
     def test_codes_and_seals_are_sixteen_bytes_of_the_generator_that_nobody_can_guess(self):
         for draw in (lambda: new_code("ada"), seal_line):
@@ -267,6 +263,7 @@ class Slips(unittest.TestCase):
                 )
                 self.assertEqual((ended.stderr, ended.returncode), ("", 0))
 
+    @pytest.mark.whole
     @NEEDS_BROWSER
     def test_they_fit_a_narrow_window_and_no_slip_is_printed_over_two_pages(self):
         folder = self.enterContext(tempfile.TemporaryDirectory(prefix="debvote-slips-"))
@@ -393,14 +390,5 @@ class Table(unittest.TestCase):
         }.items():
             self.assertEqual(self.who(cell), wanted)
         # what is harmless stays
-        for cell in (
-            "+49 (0) 30 / 12-34",
-            "-",
-            "a=b",
-            "a@b.org",
-            "O'Neil",
-            "a-b",
-            "\u00c9ve",
-            "+49 30;+49 40",
-        ):
+        for cell in "+49 (0) 30 / 12-34|-|a=b|a@b.org|O'Neil|a-b|\u00c9ve|+49 30;+49 40".split("|"):
             self.assertEqual(self.who(cell), cell)

@@ -1,5 +1,6 @@
 """Layers, lists and signatures of a vote with tellers, by vectors that were made elsewhere, and what is no list of theirs."""
 
+import contextlib
 import hashlib
 import pathlib
 import re
@@ -14,7 +15,7 @@ pytest.importorskip("cryptography", reason="python3-cryptography is not installe
 from debvote_tools.call import lists
 from debvote_tools.call.box import third_part
 from debvote_tools.call.sealed_ballots import block_of, key_pair
-from debvote_tools.call.tellers import block_length, fingerprint, has_right_block, places_for
+from debvote_tools.call.tellers import fingerprint, has_right_block, places_for
 from debvote_tools.poll.sealed import SealedPoll
 from debvote_tools.text.rendering import resources
 
@@ -60,7 +61,7 @@ class Vectors(unittest.TestCase):
         self.assertEqual((line, time), ("ada 1,-,-", "2026-12-01T12:00:00.000Z"))
         self.assertEqual(link, f"ada/23456789ab/{third_part(KEY, 'ada', '23456789ab')}")
         self.assertEqual(block, OWN.split("\n")[1].split(" ")[1])
-        self.assertEqual(len(block), block_length(4, 2))
+        self.assertEqual(len(block), lists.block_length(4, 2))
         length = len(FILES["record"].strip())
         self.assertTrue(has_right_block(POLL, 2, line, block, length))
         others = (2, "ada -,1,-", block), (3, line, block), (2, line, block[:-4]), (2, line, "")
@@ -74,18 +75,16 @@ class Vectors(unittest.TestCase):
         self.assertEqual(said, "Your ballot, cccccccc 2,1,3,-, is in all 3 lists.")
 
     def test_slips_are_sealed_as_clicks_are(self):
-        for options in range(2, 34):
-            for count in (2, 3):
-                points = tellers.points(count)
-                ranks = ",".join(str(place) for place in range(1, options + 1))
-                line = f"zzzzzzzz {ranks}"
-                block = block_of(line, options, MARK, [*points.values()])
-                self.assertEqual(len(block), block_length(options, count))
-                for step, name in enumerate(points, start=1):
-                    inside = tellers.inside_of(step, name, MARK, block)
-                    assert inside is not None
-                    block = lists.text_of(inside)
-                self.assertEqual(inside, lists.padded(line, options))
+        for options, count in [*((options, 2) for options in range(2, 34)), (2, 3), (33, 3)]:
+            points = tellers.points(count)
+            line = f"zzzzzzzz {','.join(map(str, range(1, options + 1)))}"
+            block = block_of(line, options, MARK, [*points.values()])
+            self.assertEqual(len(block), lists.block_length(options, count))
+            for step, name in enumerate(points, start=1):
+                inside = tellers.inside_of(step, name, MARK, block)
+                assert inside is not None
+                block = lists.text_of(inside)
+            self.assertEqual(inside, line.ljust(3 * (3 + options), "\n").encode())
 
 
 class WhatIsNoList(unittest.TestCase):
@@ -181,20 +180,16 @@ class ListsProgram(unittest.TestCase):
         text = "".join(f"{n:02} {row.split(' ')[1]}\n" for n, row in enumerate(rows, start=1))
         (self.folder / "ballots.txt").write_text(text)
 
-    def run_it(self, *words: str) -> tuple[int, str]:
-        program = ROOT / "python/debvote_tools/call/lists.py"
-        ended = subprocess.run(
-            ["/usr/bin/python3", "-I", program, *words],
-            cwd=self.folder,
-            capture_output=True,
-            text=True,
-            timeout=60,
-        )
-        return ended.returncode, ended.stdout + ended.stderr
+    def fault(self, *words: str) -> str:
+        """What it ends with, which is no status."""
+        with contextlib.chdir(self.folder), self.assertRaises(SystemExit) as ended:
+            lists.main(words)
+        return str(ended.exception)
 
     def test_all_is_right(self):
-        status, said = self.run_it("my-ballot.txt")
-        self.assertEqual(status, 0, said)
+        """By itself, without the rest of debvote."""
+        words = ["/usr/bin/python3", "-I", ROOT / "python/debvote_tools/call/lists.py"]
+        said = subprocess.check_output([*words, "my-ballot.txt"], cwd=self.folder, text=True)
         for data, counts in zip(LISTS, ("9 ballots, 0", "8 ballots, 1", "6 ballots, 2")):
             self.assertIn(f"{counts} refused; SHA-256 {hashlib.sha256(data).hexdigest()}", said)
         self.assertIn("is in all 3 lists", said)
@@ -214,13 +209,8 @@ class ListsProgram(unittest.TestCase):
         body = tellers.body_of(first, 1, kept, sorted([*refused, twin]))
         (self.folder / "list-1.txt").write_text(tellers.signed(body, "carla"))
         (self.folder / "list-2.txt").unlink()
-        self.assertEqual(
-            self.run_it("my-ballot.txt"),
-            (
-                1,
-                "list-1.txt: carla lost your ballot: lines 1 to 1 below the first of my-ballot.txt show it\n",
-            ),
-        )
+        said = "carla lost your ballot: lines 1 to 1 below the first of my-ballot.txt show it"
+        self.assertEqual(self.fault("my-ballot.txt"), f"list-1.txt: {said}")
 
     def test_what_proves_nothing(self):
         rows = OWN.split("\n")
@@ -234,8 +224,8 @@ class ListsProgram(unittest.TestCase):
             (MARK, "0" * 16),
         ):
             (self.folder / "my-ballot.txt").write_text(OWN.replace(old, new))
-            status, said = self.run_it("my-ballot.txt")
-            self.assertEqual((status, "lost your ballot" in said), (1, False), said)
+            said = self.fault("my-ballot.txt")
+            self.assertNotIn("lost your ballot", said)
             self.assertIn("my-ballot.txt: ", said)
 
     def test_other_files_beside_the_lists(self):
@@ -247,13 +237,8 @@ class ListsProgram(unittest.TestCase):
             file = self.folder / name
             before = file.read_text()
             file.write_text(before.replace(old, new))
-            status, said = self.run_it()
-            self.assertEqual((status, words in said), (1, True), said)
+            self.assertIn(words, self.fault())
             file.write_text(before)
         for step in range(3):
             (self.folder / f"list-{step}.txt").unlink()
-        self.assertIn("type this in the folder with the lists", self.run_it()[1])
-
-
-if __name__ == "__main__":
-    unittest.main()
+        self.assertIn("type this in the folder with the lists", self.fault())

@@ -13,6 +13,8 @@ import subprocess
 import tempfile
 import unittest
 
+import pytest
+
 from debvote_tools.call.box import (
     END_OF_CODE,
     SCRIPT,
@@ -28,9 +30,11 @@ from debvote_tools.text.rendering import resources
 
 from tests.support import sealing
 from tests.support.web_host import (
+    ASK,
     END,
     FILE,
     FIRST,
+    HOST_OFF,
     KEY,
     LINKS,
     MARK,
@@ -39,9 +43,15 @@ from tests.support.web_host import (
     PAGE,
     STRACE,
     WORD,
+    Answer,
+    BoxTest,
+    Host,
+    ballot,
+    clock_of_php,
+    place_of,
+    record,
+    request_of,
 )
-from tests.support.web_host import ASK, HOST_OFF, Answer, BoxTest, Host
-from tests.support.web_host import ballot, clock_of_php, place_of, record, request_of
 
 LIMIT, OF_A_LINK, FULL = 4_000, 20, 30_000_000
 TIME = re.compile(r"received (\d{4}-\d\d-\d\dT\d\d:\d\d:\d\dZ)\n")
@@ -290,6 +300,7 @@ class Requests(ClickTest):
         read = [datetime.datetime.strptime(one, "%a, %d %b %Y %H:%M:%S") for one in times]
         self.assertEqual((len(read), read), (9, sorted(set(read))))
 
+    @pytest.mark.whole
     def test_bad_requests_refuse_no_good_one(self):
         host, many = self.host(), 800
         bad = [*BAD, b"x" * 5_000, ballot("ada", "1,2", 1, "2" * 16), request_of("ask " + "1" * 64)]
@@ -299,6 +310,7 @@ class Requests(ClickTest):
                 self.received(click(host, number, "2,1", list(OWNS)[number // 100 % 3]))
         self.assertEqual(len(host.lines()), many // 100)
 
+    @pytest.mark.whole
     def test_a_click_takes_no_time_in_a_large_box(self):
         """Of the processor, of which a web host gives little; with ten thousand electors."""
         owns = OWNS | {f"e{number:04}": "56789abcde" for number in range(10_000)}
@@ -380,6 +392,7 @@ class Votes(ClickTest):
 class Broken(ClickTest):
     """The file was cut off, the disk is full or broken."""
 
+    @pytest.mark.whole
     def test_a_record_that_was_cut_off_is_written_over(self):
         host = self.host()
         for number in (1, 2):
@@ -504,6 +517,7 @@ class Killed(ClickTest):
                 self.assertEqual(of_file[:answered], ["flock", *wanted])
                 self.assertEqual(set(of_file[answered:]), {"sendto"})
 
+    @pytest.mark.whole
     def test_nothing_that_was_acknowledged_is_lost_by_a_kill(self):
         """After each kill the same ballot is sent again by another process: it is there once."""
         other, kills = self.host(), 0
@@ -534,6 +548,7 @@ class Killed(ClickTest):
                 self.assertEqual(other.lines(), lines, (call, count))
         self.assertGreater(kills, 100)
 
+    @pytest.mark.whole
     def test_an_asking_that_is_killed_holds_up_no_click(self):
         """The first one makes the file."""
         other = self.host()

@@ -1,18 +1,19 @@
 """`call` and `codes`: what is sealed, what electors are told, and how a call is extended, added to and taken back."""
 
-import email
 import hashlib
 import os
 import re
 import subprocess
 import unittest.mock
 
+import pytest
+
 from debvote_tools.call.secret import alias_of
 from debvote_tools.election import LETTER_TEXT
 from debvote_tools.poll.sealed import read_plain
 
 from tests.support import elections
-from tests.support.election_books import CalledTest
+from tests.support.election_books import CalledTest, text_in
 from tests.support.letters import letter
 
 UNTIL = "--until '2026-12-04 18:00' --zone Europe/Berlin"
@@ -205,8 +206,11 @@ class Again(CallTest):
         self.write("poll.toml", elections.POLL.replace("spring", "autumn"))
         self.done("call --to other@club.example")
         self.assertIn(b"autumn", self.read("call/poll.toml"))
+        # no code was given out with a call of an open vote
+        self.assertNotIn("An earlier call", self.texts())
         self.refused("call --until '2026-11-01 10:00'", "is past", status=2)
 
+    @pytest.mark.whole
     def test_taking_back_goes_on_where_it_was_killed(self):
         """Letters that nobody has sent, and the files of the call, are void: the next run removes them, which may be another call."""
         for words in ("call --take-back", "call --at nowhere"):
@@ -291,21 +295,6 @@ class Letters(CallTest):
         after = self.marks()
         self.assertEqual([name for name in before if before[name] != after[name]], ["ada"])
         self.assertRegex(after["ada"], "^[2-9a-z]{10}$")
-
-    def test_what_is_said_of_the_own_mark(self):
-        self.done(f"call {UNTIL} --to vote@club.example --at https://club.example/vote/")
-        self.done(f"call {LATER}")
-        for name in ("call/index.html", "call/call.txt", "letters/extension.txt"):
-            text = self.texts(name)
-            self.assertIn(
-                "Open the link in your letter, or answer that letter: then the subject has your own mark",
-                text,
-            )
-            self.assertNotIn("in a letter whose subject ends with", text)
-        self.done("call --take-back")
-        self.done(f"call {UNTIL} --to vote@club.example")
-        # no code was given out with a call of an open vote
-        self.assertNotIn("An earlier call", self.texts())
 
     def test_the_text_is_sealed_by_each_call(self):
         self.write("letter.txt", "x" * 78 + "\n" + "y" * 79 + "\n")
@@ -434,6 +423,7 @@ class Secret(CallTest):
         self.assertEqual((after[1:], after[0] == before[0]), (before[1:], False))
         self.assertIn(after[0], self.texts("private/slips.html"))
 
+    @pytest.mark.whole
     def test_what_a_killed_run_left_is_taken_away(self):
         self.done("codes")
         for words in ("codes", f"call {UNTIL}", "call --take-back"):
@@ -446,6 +436,7 @@ class Secret(CallTest):
             names = [] if "--take-back" in words else ["codes.csv", "slips.html"]
             self.assertEqual(self.files("private"), names)
 
+    @pytest.mark.whole
     def test_codes_that_are_void_are_taken_away(self):
         """Also if the run that took the call back was killed after its act, and the next codes are on the roll."""
         for words, names in (("call --take-back", []), ("codes --on-roll", ["slips.html"])):
@@ -540,13 +531,11 @@ class Secret(CallTest):
         self.refused("call", "electors have no codes")
         self.assertEqual((len(self.called()), self.published_codes() & aliases), (10, set()))
         self.done("letters call")
-        texts = [
-            email.message_from_bytes(file.read_bytes()).get_payload(decode=True).decode()
-            for file in (self.folder / "letters" / "call").rglob("*.eml")
-        ]
+        files = (self.folder / "letters" / "call").rglob("*.eml")
+        texts = [text_in(file.read_bytes()) for file in files]
         said = "each code that was given out with it is void. Only your new code is valid."
         for text in (*texts, self.texts("call/index.html")):
-            self.assertIn(said, " ".join(text.split()))
+            self.assertIn(said, text)
         slips = self.texts("private/slips.html").count("An earlier slip is void.")
         self.assertEqual((len(texts), slips), (10, 10))
         # where the next vote is open, nobody has a new code

@@ -248,11 +248,6 @@ class Reopen(LettersTest):
         for said in ("Closed: 3 lines came in time", "with 3 lines in time. Nothing was changed"):
             self.tells("close", said, f"\nChecksum of the ballots: {checksum}\n")
         self.assertIn("3 lines came in time", self.text("letters/closed.txt"))
-        # what was late stays late
-        self.done("publish")
-        self.assertEqual(self.read("result/late.txt").count(b"\n"), 3)
-        self.assertIn("3 came late.", self.text("letters/result.txt"))
-        self.assertIn("<li><b>3</b> came late</li>", self.text("result/index.html"))
 
     def test_a_result_before_the_last_close_is_not_the_result(self):
         self.assertRegex(self.told("status"), r"\nClosed: at [^\n]* UTC\nQuorum")
@@ -351,7 +346,3 @@ class Told(LettersTest):
             line = self.told("log").splitlines()[-2]
             said = "  the clock went back: the previous act has a later time"
             self.assertEqual(line.endswith(said), back, hour)
-        self.set_clock("2026-12-04T19:00:00+01:00")
-        self.done("close")
-        self.done("publish")
-        self.assertEqual(self.text("result/index.html").count("went back"), 2)

@@ -6,6 +6,8 @@ import subprocess
 import sys
 import time
 
+import pytest
+
 from tests.support import elections
 from tests.support.election_books import HALL, LAKE, CalledTest
 from tests.support.letters import OTHER_RANKS, RANKS
@@ -356,6 +358,7 @@ class FromAPipe(CalledTest):
         self.cast(f"Mrs Lovelace {RANKS}", f"ada {RANKS}", "Name 1,1,2,3", f"ben {RANKS}")
         self.cast("adda 2,1,4,3", f"ben {RANKS}")
 
+    @pytest.mark.whole
     def test_many_lines_in_one_go(self):
         lines = [f"ada {number // 99 + 1},{number % 99 + 1},1,2" for number in range(9000)]
         found = re.findall(r"(?m)^(\d+) (?:counted|replaced)  ", self.cast(*lines))
@@ -405,17 +408,17 @@ class FromAPipe(CalledTest):
 
 class Named(CalledTest):
     def test_log_show_receipt_and_result_tell_where_a_ballot_was_typed(self):
-        self.done("desk", "--name", " Table  2 ", given="ada 1,2,3,4\nben 2,1,3,4\n")
-        self.done("desk", "--name", "Gallery", given="cleo 1,2,3,4\n")
+        self.done("desk --name ' Table  2 '", given="ada 1,2,3,4\nben 2,1,3,4\n")
+        self.done("desk --name Gallery", given="cleo 1,2,3,4\n")
         self.assertIn("desk, desk Table 2, lines 2", self.done("log").output)
-        self.assertIn(", at Table 2: At the lake", self.done("show", "ada").output)
-        self.done("letters", "receipts")
+        self.assertIn(", at Table 2: At the lake", self.done("show ada").output)
+        self.done("letters receipts")
         texts = [file.read_text() for file in self.folder.glob("letters/receipts/*/*.eml")]
         found = [re.findall(r"at a desk \((.*)\)", text) for text in texts]
         self.assertEqual(sorted(found), [["Gallery"], ["Table 2"], ["Table 2"]])
-        self.done("close", "--yes")
+        self.done("close --yes")
         self.assertEqual(self.election("publish").status, 0)
-        page = self.read("result/index.html").decode()
+        page = self.text("result/index.html")
         self.assertIn("at desks: desk 1: 2 lines, desk 2: 1 line.", page)
         self.assertNotIn("Gallery", page)
         for name in ("", "ada 1,2", "x" * 41, "a\u202eb"):

@@ -100,18 +100,11 @@ class New(elections.ElectionTest):
         self.done("new spring")
         self.write("spring/lines", "ada 1,2,3,4\n")
         before, folder = self.contents(), self.folder / "spring"
-        for words in (
-            "add --yes lines",
-            "desk",
-            "undo",
-            "strike 1 --because x",
-            "show ada",
-            "close",
-            "count",
-            "publish",
-            "export x",
-        ):
-            ended = self.election(*words.split(), cwd=folder)
+        acting = (
+            "add --yes lines|desk|undo|strike 1 --because x|show ada|close|count|publish|export x"
+        )
+        for typed in acting.split("|"):
+            ended = self.election(typed, cwd=folder)
             self.assert_fault(ended, 9, "there is no call for votes yet")
         self.assertEqual(self.contents(), before)
         self.assertIn("Call for votes: not made yet", self.done("status", cwd=folder).output)

@@ -3,8 +3,6 @@
 import hashlib
 import shutil
 
-from debvote_tools.poll.sealed import read_plain
-
 from tests.support import elections
 from tests.support.election_books import CalledTest
 
@@ -237,20 +235,3 @@ class Secret(QuestionsTest):
         for command in ("check", "call", "codes"):
             self.assertIn(said, self.election(command).faults)
         self.assertEqual(self.contents(), before)
-
-    def test_no_folder_has_an_alias_of_another_one(self):
-        self.done("codes")
-        self.done("call --yes")
-        rolls = [list(read_plain(self.read(f"call/{label}/poll.toml")).roll) for label in "ABC"]
-        self.assertEqual(rolls, [sorted(roll) for roll in rolls])
-        self.assertEqual(([*map(len, rolls)], len({*sum(rolls, [])})), ([4, 4, 4], 12))
-        head, *rows = self.read("private/codes.csv").decode().splitlines()
-        self.assertEqual(head, "name,who,mail,code,mark")
-        public = " ".join(self.text(f"call/{name}") for name in self.called() if "." in name)
-        for row in rows:
-            name, _, _, code, _ = row.split(",")
-            self.assertNotIn(code, public)
-            self.assertNotIn(f'"{name}"', public)
-        slips = self.text("private/slips.html")
-        self.assertIn("<code>ben-b<br>A _,_<br>B _,_,_,_<br>C _,_</code>", slips)
-        self.assertIn("Question C: <bdi>A new roof</bdi>", slips)

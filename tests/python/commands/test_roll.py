@@ -101,8 +101,7 @@ class Roll(RollTest):
         self.roll("Ben,new@club.example", "Zoe,z@club.example", "Anna  Meier,a@club.example")
         self.assertEqual(self.on_roll(), ["ben", "zoe", "anna-meier"])
         people = "chair,Anna Meier,a@club.example", ",Ben,b@club.example"
-        said = self.rolled(*people, head="name,who,mail")
-        self.assertIn("No longer on the list: zoe (Zoe)", said)
+        self.rolled(*people, head="name,who,mail")
         self.assertEqual(self.on_roll(), ["chair", "ben"])
         gone = "No longer on the list: chair (Anna Meier)\nNo longer on the list: ben (Ben)\n"
         self.assertIn(gone, self.rolled("Cleo,c@club.example"))
@@ -148,12 +147,12 @@ class AfterTheCall(RollTest):
         changed = "Ada,new@club.example", *ROWS[1:]
         becomes = "ada@club.example becomes new@club.example"
         self.assert_fault(self.roll(*changed), 9, becomes, "--yes")
-        said = self.tells(
+        self.tells(
             "roll --yes",
             f"ada: address {becomes}",
             "1 elector changed; the result page says how many",
+            "\nNext: 9 letters of the call are not sent: ",
         )
-        self.assertIn("\nNext: 9 letters of the call are not sent: ", said)
         self.assertEqual(self.on_roll(), elections.NAMES)
         # a key changes once
         keys = "A" * 40, *[""] * 8
@@ -161,7 +160,7 @@ class AfterTheCall(RollTest):
         self.say_done("letters")
         # a key alone is no news
         self.tells("roll --yes", "1 elector changed", "\nNext: debvote-election close, when ")
-        self.assertIn("Nothing was changed", self.told("roll"))
+        self.tells("roll", "Nothing was changed")
         self.roll(*ROWS[:1], *changed[1:])
         self.tells("roll --yes", "\nNext: 1 letter of the call is not sent: ")
 
@@ -257,15 +256,6 @@ class Check(RollTest):
             "both are optional)",
         ]
         self.assertEqual(ended.output.splitlines(), wanted)
-
-    def test_all_faults_at_once(self):
-        poll = elections.POLL.replace("[1, 1, 3]", "[1, 1]").replace(
-            "quorum = 1", 'quorum = 99\ncolour = "red"\nroll = []'
-        )
-        ended = self.check(poll.replace("In the town hall", "At  The Lake"))
-        self.assertEqual(ended.status, 3, ended)
-        for part in ("ratios", "quorum", "colour", "roll", "looks like option 1"):
-            self.assertIn(part, ended.faults)
 
     def test_of_what_is_no_toml_debvote_says_why_and_nobody_else(self):
         for poll in [

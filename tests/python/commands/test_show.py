@@ -75,9 +75,8 @@ class Show(CalledTest):
     def test_who_is_meant(self):
         for name in ("Ada", "ADA", " ada "):
             self.assertEqual(self.shown(name)[0], "ada: Ada ada@club.example")
-        self.assert_fault(
-            self.election("show", "zoe\x1b[2J"),
-            9,
+        self.refused(
+            "show 'zoe\x1b[2J'",
             "show: no elector on the roll is `zoe\\u001B[2J`; debvote-election status --electors lists the names",
         )
         with self.book.act("addresses") as act:

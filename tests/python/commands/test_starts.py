@@ -1,12 +1,14 @@
 """How often a command starts debvote, a number that no line shows: most never do, `publish` at most eight times."""
 
 import os
-import shlex
+
+import pytest
 
 from debvote_tools.commands.command_line import COMMANDS
 
 from tests.support import elections
 from tests.support.letters import letter, mailbox
+from tests.support.questions import FORCED
 
 COUNTED = elections.ROOT / "tests" / "support" / "counted"
 
@@ -60,7 +62,7 @@ class Starts(elections.ElectionTest):
         """Runs a command, which must do what it is asked for, and counts how often it starts debvote."""
         counter, command = self.scratch / "starts", typed.split()[0]
         counter.write_bytes(b"")
-        ended = self.election(*shlex.split(typed), **how)
+        ended = self.election(typed, **how)
         self.tried.add(command)
         most = [most for start, most in MOST.items() if typed.startswith(start)]
         with self.subTest(typed):
@@ -77,13 +79,7 @@ class Starts(elections.ElectionTest):
         self.write("mail", elections.of_vote(self.folder, mailbox(*letters)))
 
 
-class Open(Starts):
-    def test_what_is_counted_before_the_close(self):
-        self.set_clock("23T10")
-        self.started("add -", given="ada 1,2,3,4\nBen 1, 2, 3, 4\n")
-        self.each("count", "close --early", "count", "publish")
-
-
+@pytest.mark.whole
 class Secret(Starts):
     poll = f"{elections.POLL}secret = true\n"
     secret = True
@@ -116,15 +112,8 @@ class Secret(Starts):
             text = f"ada 1,2,3,4\nBen 1, 2, 3, {number + 1}\ncleo 1,2,{number},4\n"
             self.write(f"odd{number}", text)
         self.each("add odd0 odd1 odd2", "add --look mail", "add --yes mail", "add --yes mail")
-        self.each(
-            "held",
-            "held 2",
-            "held 1 --enter --force not-tied --force voted-since",
-            "held 3 4 --set-aside",
-        )
-        self.started(
-            "held 7 --as 'fay 1,2,3,4' --as 'gus 1,2,4,3' --force not-tied --force voted-since"
-        )
+        self.each("held", "held 2", f"held 1 --enter {FORCED}", "held 3 4 --set-aside")
+        self.started(f"held 7 --as 'fay 1,2,3,4' --as 'gus 1,2,4,3' {FORCED}")
         self.started("desk", given="ada 1,2,3,4\n")
         self.each("show --yes ada", "status", "status --json", "undo --yes", "log", "log --check")
         self.each("strike 1 --because x", "letters receipts", "letters reminders", "roll --yes")
@@ -144,7 +133,7 @@ class Secret(Starts):
 
 
 class Several(Starts):
-    """As often for each question."""
+    """As often for each question, here of an open vote."""
 
     questions = 2
 
@@ -154,10 +143,14 @@ class Several(Starts):
             self.write(f"polls/{label}.toml", self.poll)
 
     def test_each_command(self):
-        self.write(
-            "lines",
-            "ada A 1,2,3,4 B 4,3,2,1\nben a: 1, 2,3,4\nBen B 1, 2, 3, 4\ncleo A 1,2 B 1,2,3,4\nzoe A 1,2,3,4\n",
-        )
+        self.set_clock("23T10")
+        lines = "ada A 1,2,3,4 B 4,3,2,1\nben a: 1, 2,3,4\nBen B 1, 2, 3, 4\n"
+        self.started("add -", given=lines)
+        self.write("lines", f"{lines}cleo A 1,2 B 1,2,3,4\nzoe A 1,2,3,4\n")
+        self.each("add --force lines", "count", "close --early", "count", "publish")
+
+    @pytest.mark.whole
+    def test_letters_and_a_desk(self):
         self.write_mail(
             ("ada", "ada\nA 2,1,3,4\n\nB 1,2,3,4"),
             ("dan", "A 1,2,3,4\nB 1,2,3,4"),
@@ -165,15 +158,12 @@ class Several(Starts):
             ("fay", "gus B 1,2,3,4"),
         )
         self.set_clock("23T10")
-        self.each("add --force lines", "add lines", "add --yes mail", "held")
-        self.each("held 1 --enter --force not-tied --force voted-since", "held 3 4 --set-aside")
+        self.started("add -", given="ada A 1,2,3,4 B 4,3,2,1\n")
+        self.each("add --yes mail", "held", f"held 1 --enter {FORCED}", "held 3 4 --set-aside")
         self.started("held 2 --as 'dan A 1,2,3,4 B 1,2,3,4'")
         self.started("desk", given="ida A 1,2,3,4\n")
-        self.each(
-            "show --yes ada", "status", "undo --yes", "strike 1 --because x", "letters receipts"
-        )
+        self.each("show --yes ada", "status", "undo --yes", "strike 1 --because x")
+        self.started("letters receipts")
         self.set_clock("24T11")
         self.each("close --early --force --because x", "count --force")
-        self.each(
-            "publish --yes --force --because x", "publish", "letters result", "export --yes out"
-        )
+        self.each("publish --yes --force --because x", "letters result", "export --yes out")

@@ -2,6 +2,7 @@
 
 import re
 
+import pytest
 
 from tests.support import elections
 from tests.support.election_books import HALL, LAKE, CalledTest
@@ -145,6 +146,7 @@ class Secret(CalledTest):
             self.assertNotIn("envelopes 1", self.text(name))
 
 
+@pytest.mark.whole
 class OfQuestions(QuestionsTest):
     def test_each_question_for_itself(self):
         """What is entered again in parts is entered again; each page tells of the answers to its question, the letter of all."""

@@ -4,7 +4,6 @@ import os
 import re
 import resource
 import shutil
-import signal
 import subprocess
 import sys
 from unittest import mock
@@ -76,7 +75,7 @@ class Added(CalledTest):
         self.told("strike 1 --because 'a test'")
         self.told("undo")
         self.adds("\nada 2,1,4,3\n", f"\n3 counted  ada: {HALL}\n")
-        self.assertEqual(self.lines(), ["ada 2,1,4,3"])
+        self.assert_lines("ada 2,1,4,3")
         # the elector is the one with whose name the entered line begins, whatever debvote says of
         # the line
         lines = "ada 1,2", "ben", "cleo,1,2,3,4", "Dan x", "adam 1,2,3,4", " eve 1,2", "x"
@@ -111,8 +110,7 @@ class Added(CalledTest):
             "5: `dan  1,2,4,3` was changed to `dan 1,2,4,3`",
         ]
         self.assertEqual(told, wanted)
-        lines = ["ada 1,2,4,3", "ben 2,1,4,3", "cleo 1,2,4,3", "dan 1,2,4,3"]
-        self.assertEqual(self.lines(), lines)
+        self.assert_lines("ada 1,2,4,3", "ben 2,1,4,3", "cleo 1,2,4,3", "dan 1,2,4,3")
         self.assertEqual(self.sources(), [("standard input", came)])
         # line ends of Windows are told once a file, and a byte-order mark is no change of a line
         self.write("monday", "ada 4,1,2,3\r\nben 4,1,2,3\r\ncleo 4,1,2,3\r\n")
@@ -131,7 +129,7 @@ class Added(CalledTest):
             f"{RIGHT}\nAdded 3 lines (2 bad shape, 1 counted).\n",
             words="--force",
         )
-        self.assertEqual(self.lines(), [" Cleo 1,2,3 ", "dan 1,2,4,3", "Gsu 1,2,4,3"])
+        self.assert_lines(" Cleo 1,2,3 ", "dan 1,2,4,3", "Gsu 1,2,4,3")
 
     def test_lines_of_a_word_processor_bytes_and_hints(self):
         came = "ben\u00a01,2,4,3\n“ada” 1,2,4,3\ncleo 1,2,–,3\nA>B>C\ndan 1.\n1,2,3,4\n"
@@ -225,7 +223,7 @@ class Added(CalledTest):
         lines = [f"ada {number // 99 % 99 + 1},{number % 99 + 1},1,2" for number in numbers]
         told = re.findall(r"(?m)^\d+", self.adds("\n".join(lines)))
         self.assertEqual([*map(int, told)], [*range(1, MOST_LINES + 1)])
-        self.assertEqual(self.lines(), lines)
+        self.assert_lines(*lines)
         said = f"with the new lines there would be {MOST_LINES + 1} lines and "
         limits = f"; nothing was added: debvote takes at most {MOST_LINES} lines and 33554432 bytes: add fewer"
         self.assert_refused("add", 4, said, limits, given=f"cleo {RANKS}\n")
@@ -301,7 +299,7 @@ class AfterTheEnd(CalledTest):
         self.assert_refused("desk", 9, closed, said("entered"), given=f"eve {RANKS}\n")
         self.tells(f"add {in_time} bag", "5 counted  cleo: ")
         self.adds("dan 1,2,4,3\n", "6 late  dan: ", words="--came-before-close no")
-        self.assertEqual(self.lines(), ["ada 1,2,4,3", "ben 1,2,4,3", "cleo 1,2,4,3"])
+        self.assert_lines("ada 1,2,4,3", "ben 1,2,4,3", "cleo 1,2,4,3")
         self.assertEqual(self.late_lines(), ["ada 2,1,4,3", "ben x", "dan 1,2,4,3"])
         answers = [detail.get("came_before_close") for name, detail in self.acts() if name == "add"]
         self.assertEqual(answers, [None, None, None, True, False])
@@ -361,7 +359,7 @@ class NoBallots(StopsTest):
         self.assert_refused("add good wrong", 9, said)
         self.assert_refused("add one two", 9, "one: debvote takes none of the 2 lines ")
         self.told("add --force wrong")
-        self.assertEqual(self.lines(), ["Dear all,", "ada 1,2,4,3", "Greetings"])
+        self.assert_lines("Dear all,", "ada 1,2,4,3", "Greetings")
         # half of them stop nothing, and one line alone does not; that --force was needless is not
         # told
         self.adds("ada 2,1,4,3\nx\n", "Added 2 lines (1 replaced, 1 bad shape).\n")
@@ -425,14 +423,14 @@ When/Who/Mail/Note/A/B/C/D
             "ada;1;2\nben\t1\t2\n",
             '"ada","1","2","3","4"\n"ben","2","1","3","4"\n',
         ):
-            self.stops(table, said, cure)
+            self.write("wrong", table)
+            self.assert_refused("add wrong", 9, said, cure)
         # the first that is refused is named, with the reason
         reason = "wrong:2: zoe 2,1,4,3: bad not on roll: zoe is not on the roll), and"
         self.stops(f"ada {RANKS}\nzoe 2,1,4,3\nName;A;B;C;D\n{self.ROWS}", said, reason)
         self.write("wrong", "Name;Lake;Hall;Sell;Further\nada 1;2;3;4\nben 2,1,3,4\n")
         self.tells("add --force wrong", "Added 3 lines (2 bad shape, 1 counted).\n")
-        lines = ["Name;Lake;Hall;Sell;Further", "ada 1;2;3;4", "ben 2,1,3,4"]
-        self.assertEqual(self.lines(), lines)
+        self.assert_lines("Name;Lake;Hall;Sell;Further", "ada 1;2;3;4", "ben 2,1,3,4")
 
     def test_a_wrong_name_or_a_sentence_on_the_first_line(self):
         """Neither makes a table of the ballots below it."""
@@ -453,8 +451,7 @@ When/Who/Mail/Note/A/B/C/D
         for table in ("ada|1|2|3|4\nben|1|2|3|4\n", "ada;1;2;3;4\nben;1;2;3;x\n", "ada 1\nben 2\n"):
             self.stops(table, "wrong: debvote takes none of the 2 lines as ballots")
         self.adds("ada 1,2,4,3\nben 1; 2 ;4; 3\ncleo 1, 2, 4, 3\ndan 1;2,4;3\n")
-        lines = ["ada 1,2,4,3", "ben 1; 2 ;4; 3", "cleo 1,2,4,3", "dan 1;2,4;3"]
-        self.assertEqual(self.lines(), lines)
+        self.assert_lines("ada 1,2,4,3", "ben 1; 2 ;4; 3", "cleo 1,2,4,3", "dan 1;2,4;3")
 
 
 class RealNames(StopsTest):
@@ -474,7 +471,7 @@ class RealNames(StopsTest):
         self.adds(f"Cleo {RANKS}\nada {RANKS}\nben-1 {RANKS}\n", words="--look")
         self.cast("ada lovelace: 1, 2, 4, 3.", "ADA-LOVELACE 2,1,4,3", f"Cleo {RANKS}")
         lines = [f"ada {RANKS}", f"ada {OTHER_RANKS}", f"cleo-blum {RANKS}"]
-        self.assertEqual(self.lines(), [lines[0], f"Lovelace {RANKS}", *lines])
+        self.assert_lines(lines[0], f"Lovelace {RANKS}", *lines)
         # the line as it came is refused for its name, and what it means for another reason
         self.tells(
             "desk",
@@ -499,7 +496,7 @@ class RealNames(StopsTest):
                 said = f"desk:1: {unclear}it was not entered.\n"
                 self.assertIn(said, self.cast(f"{name} {RANKS}"))
                 self.assert_refused(f"show '{name}'", 9, f"name one of {one}, {other}")
-        self.assertEqual(self.lines(), [])
+        self.assert_lines()
         self.tells("add --force wrong", "Added 2 lines (1 counted, 1 bad shape).\n")
 
 
@@ -525,16 +522,19 @@ class Failing(CalledTest):
         """Each line goes in, or none, wherever the disk is full."""
         self.adds(f"ben {RANKS}\n")
         size = (self.folder / "election.db").stat().st_size
-        given = "".join(f"ada {number},2,3,4\n" for number in range(1, 100)) * 40
+        self.write("more", "".join(f"ada {number},2,3,4\n" for number in range(1, 100)) * 10)
+        before, most = self.last_act(), resource.getrlimit(resource.RLIMIT_FSIZE)[1]
+        self.addCleanup(resource.setrlimit, resource.RLIMIT_FSIZE, (most, most))
         for room in (4096, size // 2, size, size + 40_960):
-
-            def limit(room: int = room):
-                signal.signal(signal.SIGXFSZ, signal.SIG_IGN)
-                resource.setrlimit(resource.RLIMIT_FSIZE, (room, room))
-
+            # a file that would be longer is an error for Python, and no signal
+            resource.setrlimit(resource.RLIMIT_FSIZE, (room, most))
+            ended = self.election("add more")
+            resource.setrlimit(resource.RLIMIT_FSIZE, (most, most))
             said = "election.db: it can't be written (", "; nothing was added: "
-            ended = self.assert_refused("add", 7, *said, given=given, preexec_fn=limit)
-            self.assertEqual((ended.output, self.lines()), ("", [f"ben {RANKS}"]))
+            self.assert_fault(ended, 7, *said)
+            self.assertEqual(self.last_act(), before)
+            self.assertEqual(ended.output, "")
+            self.assert_lines(f"ben {RANKS}")
         self.told("log --check")
         self.adds(f"ada {RANKS}\n", "2 counted  ada: ")
 

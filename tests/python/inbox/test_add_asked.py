@@ -6,6 +6,8 @@ import re
 import subprocess
 import sys
 
+import pytest
+
 from tests.support import elections
 from tests.support.election_books import LAKE, CalledTest
 from tests.support.letters import OTHER_RANKS, RANKS
@@ -55,8 +57,7 @@ class AfterReopen(CalledTest):
             terminal = self.asked()
             self.adds(f"{name} {RANKS}\n", words="--came-before-close yes")
             self.assertNotIn(ASKED, self.answer(terminal, "y\n", says=says))
-            lines = [f"cleo {RANKS}", f"ada {RANKS}", f"ben {RANKS}"]
-            self.assertEqual(self.lines(), lines)
+            self.assert_lines(f"cleo {RANKS}", f"ada {RANKS}", f"ben {RANKS}")
             self.told("undo")
 
     def test_a_close_meanwhile(self):
@@ -86,18 +87,19 @@ class BesideOthers(CalledTest):
         self.addCleanup(run.kill)
         return run
 
+    @pytest.mark.whole
     def test_two_copies_of_one_file(self):
         ranks = itertools.product(range(1, 20), repeat=2)
         self.write("many", "".join(f"ada {one},{other},1,2\n" for one, other in ranks))
-        runs = [self.adding("many") for _ in range(4)]
+        runs = [self.adding("many") for _ in range(3)]
         outputs = "".join(run.communicate(timeout=elections.SECONDS)[0] for run in runs)
-        self.assertEqual([run.returncode for run in runs], [0] * 4, outputs)
+        self.assertEqual([run.returncode for run in runs], [0] * 3, outputs)
         self.assertEqual(len(self.lines()), 361)
         said = "Added 361 lines", "There is nothing new"
-        self.assertEqual([outputs.count(part) for part in said], [1, 3])
+        self.assertEqual([outputs.count(part) for part in said], [1, 2])
 
     def test_each_gets_the_replies_to_its_own_lines(self):
-        runs = {name: self.adding() for name in self.names[:5]}
+        runs = {name: self.adding() for name in self.names[:3]}
         for name, run in runs.items():
             run.stdin.write(f"{name} {RANKS}\n{name} {OTHER_RANKS}\n")
             run.stdin.close()
@@ -119,7 +121,7 @@ class BesideOthers(CalledTest):
         os.close(write_end)
         self.told(f"add /dev/fd/{read_end}", pass_fds=(read_end,))
         os.close(read_end)
-        self.assertEqual(self.lines(), [f"ada {RANKS}", f"ben {RANKS}"])
+        self.assert_lines(f"ada {RANKS}", f"ben {RANKS}")
 
     def test_another_call_while_it_reads(self):
         """What it says of the lines is of the poll before."""

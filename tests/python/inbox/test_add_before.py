@@ -24,8 +24,8 @@ class Before(CalledTest):
         ignored = f"{name}: {lines} came before; {new} {'is' if new == 1 else 'are'} new\n"
         return self.tells(f"add {name}", ignored, *parts)
 
-    def assert_nothing_since(self, count: int, new: int = 0, name: str = "monday"):
-        self.assertNotIn("came before, and", self.assert_ignored(count, new, name=name))
+    def assert_nothing_since(self, count: int, name: str = "monday"):
+        self.assertNotIn("came before, and", self.assert_ignored(count, 0, name=name))
 
     def test_the_same_lines_again(self):
         before = self.last_act()
@@ -105,7 +105,7 @@ class Before(CalledTest):
         said = f"  monday:1: `ada {RANKS}` came before, and was struck (envelope 1)\n"
         self.assert_ignored(2, 0, said, name="monday")
         for number in (3, 4):
-            self.assertEqual(self.lines(), [f"ben {RANKS}"])
+            self.assert_lines(f"ben {RANKS}")
             self.told("undo")
             self.assert_ignored(1, 1, said, f"\n{number} counted  ben: ", name="monday")
 

@@ -22,7 +22,7 @@ from debvote_tools.inbox.mailbox import NotRead, RawLetter, are_letters, letters
 from debvote_tools.text import times
 
 from tests.support.elections import ElectionTest
-from tests.support.letters import read_in
+from tests.support.letters import read_in, rows
 from tests.support.web_host import ASK, FIRST, KEY, MARK, NEEDS_PHP, OWNS, WORD, place_of
 from tests.support.web_host import BoxTest, Liar, answered, ballot, record
 
@@ -145,19 +145,21 @@ class Fetched(ElectionTest):
 
 class Addresses(AskingTest):
     def test_where_no_script_can_lie_or_ballots_would_go_unencrypted(self):
-        for at in (
-            None,
-            "",
-            "http://club.example/vote/",
-            "https://club.example/vote",
-            "https://club.example",
-            "https://club.example/vote/?id=1",
-            "https://club.example/?vote/",
-            "ftp://127.0.0.1/",
-            "http://127.0.0.1.club.example/",
-            "https://club.example/vote.htm",
-            "vote/",
-        ):
+        addresses = rows(
+            """
+
+http://club.example/vote/
+https://club.example/vote
+https://club.example
+https://club.example/vote/?id=1
+https://club.example/?vote/
+ftp://127.0.0.1/
+http://127.0.0.1.club.example/
+https://club.example/vote.htm
+vote/
+"""
+        )
+        for at in (None, *addresses):
             with self.subTest(at):
                 self.stopped(
                     at,
@@ -340,7 +342,7 @@ class Certificates(AskingTest):
 
         def made(name: str, subject: str) -> ssl.SSLContext:
             key, certificate = place / f"{name}.key", place / f"{name}.pem"
-            words = "openssl req -x509 -newkey rsa:2048 -nodes -days 2 -subj /CN=x -keyout"
+            words = "openssl req -x509 -newkey ec -pkeyopt ec_paramgen_curve:P-256 -nodes -days 2 -subj /CN=x -keyout"
             named = [key, "-out", certificate, "-addext", f"subjectAltName={subject}"]
             subprocess.run([*words.split(), *named], check=True, capture_output=True)
             context = ssl.SSLContext(ssl.PROTOCOL_TLS_SERVER)

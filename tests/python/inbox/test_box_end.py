@@ -6,10 +6,11 @@ import re
 import socket
 from collections.abc import Callable, Iterator, Sequence
 
+import pytest
+
 from tests.support import boxes
 from tests.support.boxes import OTHER, RANKS, now
 from tests.support.terminal import Terminal
-from tests.support.web_host import NEEDS_PHP
 
 # in seconds from now
 END = 7_200
@@ -27,7 +28,6 @@ WAITS = "came by the page of the vote, with your link. It is not entered yet: th
 LATE, LOOKED_AT = f"{WAITS}The reason: {AFTER}.", f"{WAITS}If you have not sent this,"
 
 
-@NEEDS_PHP
 class End(boxes.BoxElectionTest):
     def begun_to_end(self, ahead: int = 0):
         """Called and written to all, with an end in two hours; the clock of the host is so many
@@ -87,7 +87,7 @@ class End(boxes.BoxElectionTest):
         self.keep(*self.records(), early)
         self.add_box()
         self.assertEqual(self.told("held").count(AFTER), 2)
-        self.assertEqual(self.standing(), {"ada": RANKS, "dan": RANKS})
+        self.assert_standing(ada=RANKS, dan=RANKS)
         wait = {"ben": [LOOKED_AT], "eve": [LOOKED_AT]}
         self.demand_told(ada=COUNTS, cleo=[LATE], dan=[*COUNTS, LATE], **wait)
         self.refused("close", "these letters arrived in time, and wait: 3, 6;")
@@ -109,7 +109,7 @@ class End(boxes.BoxElectionTest):
         # the page that was open all the time, and the script on the host, are the same
         self.click("cleo")
         self.add_box()
-        self.assertEqual(self.standing(), dict.fromkeys(("ada", "ben", "cleo"), RANKS))
+        self.assert_standing(**dict.fromkeys(("ada", "ben", "cleo"), RANKS))
         self.demand_told(ada=STAYS, ben=STAYS, cleo=STAYS)
 
     def test_a_click_before_an_early_close_by_a_host_that_is_ahead(self):
@@ -123,9 +123,10 @@ class End(boxes.BoxElectionTest):
         self.add_box()
         self.assertIn("these letters arrived in time, and wait: 1;", self.election("count").faults)
         self.done("reopen --because 'the click came before the close'")
-        self.assertIn("1 counted  ada: ", self.told("held 1 --enter"))
+        self.tells("held 1 --enter", "1 counted  ada: ")
         self.demand_told(ada=COUNTS)
 
+    @pytest.mark.whole
     def test_a_host_that_is_behind(self):
         self.demand_decided(-180, -180, ["ada", "ben"], "cleo")
 
@@ -146,15 +147,14 @@ class End(boxes.BoxElectionTest):
         said = self.add_box()
         late = [name for name in CLICKING if name not in (*counting, waiting)]
         self.assertEqual((len(re.findall(NEAR, said)), said.count(AFTER)), (1, len(late)), said)
-        self.assertEqual(self.standing(), dict.fromkeys(counting, RANKS))
+        self.assert_standing(**dict.fromkeys(counting, RANKS))
         told = dict.fromkeys(counting, COUNTS) | dict.fromkeys(late, [LATE])
         self.demand_told(**told, **{waiting: [LOOKED_AT]})
         # the secretary, who knows more, decides: before that nothing is closed
         number = [*CLICKING].index(waiting) + 1
-        fault = f"these letters arrived in time, and wait: {number};"
-        self.refused("close", fault)
+        self.refused("close", f"these letters arrived in time, and wait: {number};")
         self.done(f"held {number} --enter")
-        self.assertEqual(self.standing(), dict.fromkeys((*counting, waiting), RANKS))
+        self.assert_standing(**dict.fromkeys((*counting, waiting), RANKS))
         self.demand_told(**{waiting: COUNTS})
         # of what is known to have come after the end, and counts all the same, everybody is told
         self.done("held 4 --enter")
@@ -172,7 +172,7 @@ class End(boxes.BoxElectionTest):
             self.click("ada", ranks)
         self.later(600)
         self.add_box()
-        self.assertEqual(self.standing(), {"ada": RANKS})
+        self.assert_standing(ada=RANKS)
         [told] = self.receipts().values()
         first, second = told.split("Your ballot of ")[1:]
         self.assertIn("It was read as: Further discussion, then", first)

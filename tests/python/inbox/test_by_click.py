@@ -5,11 +5,12 @@ import datetime
 import email
 import hashlib
 import itertools
-import os
 import shutil
 import sys
 import unittest.mock
 from concurrent.futures import ThreadPoolExecutor
+
+import pytest
 
 from debvote_tools.book import queries
 from debvote_tools.call.box import asking_word, list_digest, proof_digest
@@ -22,7 +23,7 @@ from tests.support import boxes, elections, sealing
 from tests.support.boxes import OTHER, RANKS, now
 from tests.support.elections import NAMES
 from tests.support.program import PROGRAM
-from tests.support.web_host import NEEDS_PHP, Liar, passed_on, request_of
+from tests.support.web_host import Liar, passed_on, request_of
 
 
 HTTPS = "--at https://club.example/vote/"
@@ -55,8 +56,7 @@ class CallWithBox(elections.ElectionTest):
         # nor can a vote with a box be one with signatures afterwards
         plain = "call --keyring x --at http://club.example/"
         self.refused(plain, "--box: the page needs an address by https", status=2)
-        fault = "--keyring: the call was made without it"
-        self.refused("call --keyring x", fault)
+        self.refused("call --keyring x", "--keyring: the call was made without it")
         for part in (
             "0 * * * * XDG_STATE_HOME=",
             f"debvote-election add --folder {self.folder} --box --yes",
@@ -98,7 +98,6 @@ class CallWithBox(elections.ElectionTest):
                 self.assertTrue(name == "election.db" or secret not in data, name)
 
 
-@NEEDS_PHP
 class Clicks(boxes.BoxElectionTest):
     def test_the_link_is_in_the_letters_to_its_elector_alone(self):
         self.begun()
@@ -126,11 +125,10 @@ class Clicks(boxes.BoxElectionTest):
         # letters wait for the secretary, and are not entered by what cron runs
         self.write("inbox.mbox", self.of_this_vote(self.letter("cleo", f"cleo {RANKS}")))
         self.assertEqual(self.election("add inbox.mbox").status, 9)
-        said = self.add_box()
-        self.assertIn("The web box has 3 records.\n3 new letters; 0 came before.\n", said)
+        said = self.add_box("The web box has 3 records.\n3 new letters; 0 came before.\n")
         self.assertNotIn("cleo", said)
         standing = {"ada": OTHER, "ben": "2,1,-,4"}
-        self.assertEqual(self.standing(), standing)
+        self.assert_standing(**standing)
         again = "The web box has 3 records.\n0 new letters; 3 came before.\n"
         self.assertTrue(self.add_box().startswith(again))
         kept = self.boxes_kept()
@@ -139,11 +137,11 @@ class Clicks(boxes.BoxElectionTest):
         # taken back, and asked again: that waits for whoever took it back
         self.done("undo")
         self.add_box()
-        self.assertEqual(self.standing(), {})
+        self.assert_standing()
         # two of one elector may be of one second, so each is named apart
         for number in (2, 3, 4):
             self.done(f"held {number} --enter --force not-tied --force voted-since")
-        self.assertEqual(self.standing(), standing)
+        self.assert_standing(**standing)
 
     def test_a_link_that_a_new_one_has_replaced_waits_and_both_addresses_are_told(self):
         links = self.begun()
@@ -154,7 +152,7 @@ class Clicks(boxes.BoxElectionTest):
         other = "Note: the web host has another vote.php than the folder call, as an older one: upload that of the folder"
         self.assertIn(other, said)
         self.assertIn("with a link that is not that of ada now", said)
-        self.assertEqual(self.standing(), {})
+        self.assert_standing()
         self.done("letters receipts")
         files = (self.folder / "letters/receipts").rglob("*.eml")
         told = sorted(email.message_from_bytes(file.read_bytes())["To"] for file in files)
@@ -166,7 +164,7 @@ class Clicks(boxes.BoxElectionTest):
         self.assertEqual(self.sent("ada", RANKS, links["ada"], 999).status, 403)
         self.click("ada", OTHER)
         self.add_box()
-        self.assertEqual(self.standing(), {"ada": OTHER})
+        self.assert_standing(ada=OTHER)
 
     def test_a_backup_that_is_put_back(self):
         """The book lacks the link of a ballot that came: it is kept, and waits for whoever knows
@@ -185,18 +183,20 @@ class Clicks(boxes.BoxElectionTest):
         self.click("ada")
         self.add_box()
         both = {"ada": RANKS, "ben": RANKS}
-        self.assertEqual(self.standing(), both)
+        self.assert_standing(**both)
         shutil.copy(self.scratch / "copy.db", self.folder / "election.db")
         self.refused("add --box --yes", "it is an older copy")
-        said = self.told("add --box --yes --moved --because 'The disk was put back.'")
-        self.assertIn("another vote.php than the folder call", said)
-        self.assertIn("a book that was put back lacks some", said)
-        self.assertEqual(self.standing(), {"ben": RANKS})
+        self.tells(
+            "add --box --yes --moved --because 'The disk was put back.'",
+            "another vote.php than the folder call",
+            "a book that was put back lacks some",
+        )
+        self.assert_standing(ben=RANKS)
         # the link ties nobody to it any more
         fault = "letter 2: its sender and its subject do not show that it is of ada"
         self.refused("held 2 --enter", fault, "--force not-tied")
         self.done("held 2 --enter --force not-tied --force voted-since")
-        self.assertEqual(self.standing(), both)
+        self.assert_standing(**both)
 
     def test_a_call_that_was_taken_back(self):
         """Its links are no more, and where the options have another order no way leads from its
@@ -218,12 +218,12 @@ class Clicks(boxes.BoxElectionTest):
         self.done("call --take-back")
         self.call()
         why = "a link that is not that of ada now: a new address or a new call makes a new one, and"
-        self.assertIn(why, self.add_box())
-        self.assertEqual(self.standing(), {})
+        self.add_box(why)
+        self.assert_standing()
         self.done("letters call")
         self.click("ada")
         self.add_box()
-        self.assertEqual(self.standing(), {"ada": RANKS})
+        self.assert_standing(ada=RANKS)
 
     def test_by_ftp_and_then_by_key(self):
         self.begun(ada=RANKS, ben=RANKS)
@@ -231,18 +231,18 @@ class Clicks(boxes.BoxElectionTest):
         # whoever has the file can make none of another proof
         proof = proof_digest(self.mark(), self.place_of("ada")).encode()
         self.write("fetched.php", data + self.records()[0].replace(proof, b"2" * 64))
-        said = self.told("add --yes fetched.php")
-        self.assertIn(
-            "it is a record of the web box that can't be opened, and was passed over", said
+        said = self.tells(
+            "add --yes fetched.php",
+            "it is a record of the web box that can't be opened, and was passed over",
+            "2 new letters; 0 came before.",
         )
-        self.assertIn("2 new letters; 0 came before.", said)
         why = "it is in the file of the web box, which others may have changed"
         self.assertEqual(said.count(why), 2)
-        self.assertEqual(self.standing(), {})
+        self.assert_standing()
         self.done("held 1 --enter --force not-tied --force voted-since")
         self.done("held 2 --set-aside")
         self.assertNotIn("it has no more", self.add_box())
-        self.assertEqual(self.standing(), {"ada": RANKS, "ben": RANKS})
+        self.assert_standing(ada=RANKS, ben=RANKS)
         self.assertEqual(self.rows("SELECT count(*) FROM envelope"), [(2,)])
         # what was set aside came by the page, too, and not from another address
         text = self.receipts()["ben"]
@@ -278,6 +278,7 @@ class Clicks(boxes.BoxElectionTest):
         self.assertEqual((opening.called, len(letters), unopened), (False, 2, []))
         self.assertEqual({one.digest for one in letters}, {one.digest for one in kept})
 
+    @pytest.mark.whole
     def test_no_request_has_the_key_and_three_ask_at_once(self):
         with Liar(lambda request: [passed_on(request, self.host)]) as between:
             self.begun("--at", between.at, **dict.fromkeys(NAMES, RANKS))
@@ -292,13 +293,13 @@ class Clicks(boxes.BoxElectionTest):
             self.assertNotIn(self.key, request)
         for request in asked:
             self.assertIn(b"\r\n\r\n" + request_of(f"box=ask {asking_word(self.key)}"), request)
-        self.assertEqual(self.standing(), dict.fromkeys(NAMES, RANKS))
+        self.assert_standing(**dict.fromkeys(NAMES, RANKS))
         self.assertEqual(self.rows("SELECT count(*) FROM letter"), [(len(NAMES),)])
 
     def test_no_link_is_shown_again(self):
         """And a record without a ballot, which no page makes, is told to whose link it is."""
         links = self.begun(ada="1,2,3,5", ben="YES")
-        self.assertIn("2 letters wait", self.add_box())
+        self.add_box("2 letters wait")
         place = f"#{self.place_of('ada')}"
         own, link = place.split("/")[1:]
         # broken where a program breaks it, with letters by their numbers, alone, and as the name of
@@ -344,7 +345,6 @@ class Clicks(boxes.BoxElectionTest):
         self.assertNotIn("No receipt is about", self.told("letters receipts"))
 
 
-@NEEDS_PHP
 class Receipts(boxes.BoxElectionTest):
     members = "who,mail\nAda,ada@club.example\nBen,ben@club.example\nCleo,cleo@club.example\nDan,dan@club.example home@dan.example\nEve,eve@club.example\n"
 
@@ -390,7 +390,6 @@ class Receipts(boxes.BoxElectionTest):
 CHANGED = "4,4,1,-"
 
 
-@NEEDS_PHP
 class Whole(boxes.BoxElectionTest):
     """Six click and three write; some do both, or do it again."""
 
@@ -401,7 +400,7 @@ class Whole(boxes.BoxElectionTest):
         self.click("ada", CHANGED)
         again = ("ben", CHANGED, links["ben"], 999)
         self.assertEqual({self.sent(*again).status for _ in range(3)}, {200})
-        self.assertIn("8 ballots of letters went in; 0 letters wait", self.add_box())
+        self.add_box("8 ballots of letters went in; 0 letters wait")
         # who clicked writes later, and who wrote clicks later; older letters are passed over
         letters = [self.letter(name, f"{name} {meant[name]}", 300) for name in NAMES[6:]]
         self.later()
@@ -420,8 +419,8 @@ class Whole(boxes.BoxElectionTest):
         self.later()
         self.click("eve", CHANGED)
         self.add_box()
-        self.assertEqual(self.standing(), meant)
-        self.assertIn("remove vote.php and box-", self.told("publish"))
+        self.assert_standing(**meant)
+        self.tells("publish", "remove vote.php and box-")
         lines = self.read("result/ballots.txt").decode().splitlines()
         self.assertEqual(dict(line.split() for line in lines), meant)
         told = self.receipts()
@@ -429,22 +428,21 @@ class Whole(boxes.BoxElectionTest):
         in_words = Election(self.folder, PROGRAM.parent).questions.in_words()
         for name, text in told.items():
             self.assertIn(f"It was read as: {in_words(meant[name])}.", text)
-            by_page = "It came by the page of the vote." in text
-            self.assertEqual(by_page, name in NAMES[:7], text)
+            self.assertEqual("It came by the page of the vote." in text, name in NAMES[:7], text)
             late = "The reason: it arrived after the vote was closed" in text
             self.assertEqual((boxes.LINK.search(text), late), (None, name == "eve"), text)
 
 
 # how many records, 20 of each elector, and the script that measures the run of a program: in
 # seconds of the processor, and in kilobytes
-RECORDS = int(os.environ.get("DEBVOTE_BOX_RECORDS", "10000"))
+RECORDS = 10_000
 MEASURE = """import resource, subprocess, sys
 ended = subprocess.run(sys.argv[1:], check=True)
 used = resource.getrusage(resource.RUSAGE_CHILDREN)
 print(used.ru_utime + used.ru_stime, used.ru_maxrss)"""
 
 
-@NEEDS_PHP
+@pytest.mark.whole
 class Many(boxes.BoxElectionTest):
     names = [f"m{number}" for number in range(RECORDS // MOST)]
 
@@ -486,4 +484,4 @@ class Many(boxes.BoxElectionTest):
         self.assertLess(took[0], 60)
         self.assertLess(took[1], max(4, took[0] / 2))
         standing = {name: f"{number % 4 + 1},2,3,4" for number, name in enumerate(self.names)}
-        self.assertEqual(self.standing(), standing)
+        self.assert_standing(**standing)

@@ -1,8 +1,9 @@
 """An election of 40 by mail alone: how much its secretary types, and how much she reads."""
 
 import re
-import unittest
 from collections.abc import Mapping
+
+import pytest
 
 from tests.python.inbox.test_forgeries import marked_by
 from tests.python.inbox.test_people import dense, records
@@ -31,6 +32,7 @@ def chosen() -> list[tuple[Mapping[str, str], str]]:
 CALLED, OVER = "2026-11-20T09:00:00+00:00", "2026-12-04T18:00:01+00:00"
 
 
+@pytest.mark.whole
 class ByMailAlone(SendTest):
     call_words = None
     answers = chosen()
@@ -121,7 +123,3 @@ class ByMailAlone(SendTest):
             self.assertEqual(dense(self.stands(name)), dense(ranks))
         self.assertLessEqual(self.commands, 34)
         self.assertLessEqual(self.shown, 700)
-
-
-if __name__ == "__main__":
-    unittest.main()

@@ -14,12 +14,14 @@ import shutil
 import time
 import unittest.mock
 
+import pytest
+
 from debvote_tools.call.box import proof_digest
 
 from tests.support import boxes, elections
 from tests.support.at_browser import NEEDS_BROWSER, Window
 from tests.support.boxes import OTHER, RANKS, now
-from tests.support.web_host import NEEDS_PHP, Liar, passed_on
+from tests.support.web_host import Liar, passed_on
 
 # how many members there are
 MEMBERS = int(os.environ.get("DEBVOTE_CLICKING_MEMBERS", "40"))
@@ -43,7 +45,6 @@ def in_order(ranks: str) -> str:
     return ",".join("-" if rank == "-" else str(used.index(rank) + 1) for rank in ranks.split(","))
 
 
-@NEEDS_PHP
 class ClickedElection(boxes.BoxElectionTest):
     """All that its host is sent, and all that its commands say, is kept."""
 
@@ -89,6 +90,7 @@ class ClickedElection(boxes.BoxElectionTest):
         self.assertEqual((len(lengths), len({*lengths})), (count, 1))
 
 
+@pytest.mark.whole
 @NEEDS_BROWSER
 class InABrowser(ClickedElection):
     def setUp(self):
@@ -154,7 +156,7 @@ class OpenByClicks(InABrowser):
         sent = self.all_click()
         count = sum(map(len, sent.values()))
         self.demand_one_length(count)
-        self.assertIn(f"{count} ballots of letters went in; 0 letters wait", self.add_box())
+        self.add_box(f"{count} ballots of letters went in; 0 letters wait")
         self.demand_receipts(sent)
         self.assertEqual(self.close_and_publish(), self.ranks)
         self.demand_nothing_on_the_host(links)
@@ -172,7 +174,7 @@ class OpenByClicks(InABrowser):
         kept, dropped = self.records()
         when, of_other = (one.partition(b"X-Proof")[0] for one in (dropped, kept))
         self.keep(kept.replace(of_other, when))
-        self.assertIn("1 ballot of letters went in; 0 letters wait", self.add_box())
+        self.add_box("1 ballot of letters went in; 0 letters wait")
         [text] = self.receipts().values()
         self.assertEqual(SENT.findall(text), [first])
         self.assertIn("It was read as: At the lake, then In the town hall", text)
@@ -226,7 +228,7 @@ class SecretByClicks(InABrowser):
         what it was.
         """
         name, other = self.names[:2]
-        [(last, letters)] = self.rows(
+        [(envelopes, letters)] = self.rows(
             "SELECT max(envelope), (SELECT max(letter) FROM letter) FROM envelope"
         )
         # no page makes such a line; a letter of a stranger, and lines of paper and of a desk
@@ -234,18 +236,16 @@ class SecretByClicks(InABrowser):
         self.add(self.letter(other, f"{other} {OTHER}", sender="x@else.example"))
         self.write("paper.txt", "".join(f"{line}\n" for line in self.on_paper))
         self.election("desk", given="".join(f"{line}\n" for line in self.at_a_desk))
-        commands = ["add --box --look", "add --box --yes", "add paper.txt", "add --force paper.txt"]
-        commands += ["held", "held 1", "status", "status --json", "log"]
         waiting = (letters + 1, letters + 2)
         ways = ("", "--enter", "--enter --yes", "--set-aside", "--wait", "--set-aside")
-        commands += [f"held {number} {way}" for number in waiting for way in ways]
-        commands += [f"show {one}" for one in self.names]
-        commands += ["count", "count --force", "publish", "strike 1 --because x", "undo"]
-        commands += ["letters reminders", "letters receipts"]
-        for words in commands:
+        each = [f"held {number} {way}" for number in waiting for way in ways]
+        each += [f"show {one}" for one in self.names]
+        first = "add --box --look|add --box --yes|add paper.txt|add --force paper.txt|held|held 1|status|status --json|log"
+        last = "count|count --force|publish|strike 1 --because x|undo|letters reminders|letters receipts"
+        for words in (*first.split("|"), *each, *last.split("|")):
             self.election(words)
         # what was added and typed here is taken back
-        for (envelope,) in self.rows("SELECT envelope FROM envelope WHERE envelope > ?", last):
+        for (envelope,) in self.rows("SELECT envelope FROM envelope WHERE envelope > ?", envelopes):
             self.election(f"strike --yes --because try {envelope}")
         self.assertEqual(self.rows("SELECT max(letter) FROM letter"), [(waiting[1],)])
         self.election("log --check")
@@ -283,7 +283,6 @@ class SecretByClicks(InABrowser):
             self.assertIsNone(pattern.search(text), text)
 
 
-@NEEDS_PHP
 class Struck(boxes.BoxElectionTest):
     """A host that takes an elector out of the list of its script."""
 
@@ -299,14 +298,13 @@ class Struck(boxes.BoxElectionTest):
         self.assertEqual((answer.status, answer.word), (403, "unknown:"))
         self.click("cleo")
         note = "Note: the web host has another vote.php than the folder call"
-        self.assertIn(note, self.add_box())
+        self.add_box(note)
         self.upload()
         self.click("ada", OTHER)
         self.assertNotIn(note, self.add_box())
-        self.assertEqual(self.standing(), {"ada": OTHER, "ben": RANKS, "cleo": RANKS})
+        self.assert_standing(ada=OTHER, ben=RANKS, cleo=RANKS)
 
 
-@NEEDS_PHP
 class SecretQuestions(boxes.BoxElectionTest):
     """A secret vote on several questions, of which one is a motion, whose answers may be words,
     without a browser.
@@ -333,18 +331,12 @@ class SecretQuestions(boxes.BoxElectionTest):
         self.write("paper", "eve A yes B 1,3,2\nfay A nope B 1,1\nhal A 2,1,2\n")
         said = self.told("add --box --look") + self.add_box()
         self.assertIn("3 ballots of letters went in; 1 letter waits", said)
-        commands = [
-            "add paper",
-            "held",
-            "held 3",
-            "held 3 --enter",
-            "status",
-            "status --json",
-            "log",
-        ]
-        commands += ["count --force", "undo", *map("show {}".format, elections.NAMES)]
+        commands = (
+            "add paper|held|held 3|held 3 --enter|status|status --json|log|count --force|undo"
+        )
+        shows = map("show {}".format, elections.NAMES)
         ended = [self.election("desk", given="gus A 1,2 B 3,-,1\nida A perhaps not\n")]
-        ended += [self.election(words) for words in commands]
+        ended += [self.election(words) for words in (*commands.split("|"), *shows)]
         said += EXAMPLE.sub("", "".join(one.output + one.faults for one in ended))
         self.assertIn("the vote is secret, and this shows what ada voted", said)
         ranks = (
@@ -356,7 +348,7 @@ class SecretQuestions(boxes.BoxElectionTest):
         self.assertIsNone(re.search(r"[0-9],[0-9-]|, then |It was read as", told), told)
 
 
-@NEEDS_PHP
+@pytest.mark.whole
 class ShuffledClicks(boxes.BoxElectionTest):
     """A secret vote that is held again and again from its call on: the same ballots by the same
     codes, with the same random line of the close, and acts of the same times.
@@ -410,7 +402,7 @@ class ShuffledClicks(boxes.BoxElectionTest):
             is_last = name not in clicks[number + 1 :]
             self.click(name, self.ranks[name] if is_last else "2,3,4,1", links[name])
         self.at(3600)
-        self.assertIn(f"{len(clicks)} ballots of letters went in", self.add_box())
+        self.add_box(f"{len(clicks)} ballots of letters went in")
         self.at(3610)
         with unittest.mock.patch("secrets.token_hex", lambda size: "5" * 2 * size):
             self.done("close --early")

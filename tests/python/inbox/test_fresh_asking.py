@@ -7,13 +7,15 @@ import shutil
 import signal
 import zoneinfo
 
+import pytest
+
 from debvote_tools.inbox.box_records import MOST
 
 from tests.support import boxes, elections
 from tests.support.boxes import OTHER, RANKS, now
 from tests.support.elections import NAMES
 from tests.support.terminal import Terminal
-from tests.support.web_host import FIRST, NEEDS_PHP, Liar, passed_on
+from tests.support.web_host import FIRST, Liar, passed_on
 
 BERLIN = zoneinfo.ZoneInfo("Europe/Berlin")
 UNSEEN = "nobody has seen yet whether the web box works, with page and links of now"
@@ -44,7 +46,6 @@ class AskedTest(boxes.BoxElectionTest):
         self.begun("--until", f"{now(600):%Y-%m-%d %H:%M:%S}", "--zone", "UTC", **clicks)
 
 
-@NEEDS_PHP
 class Letters(AskedTest):
     def test_what_was_not_seen(self):
         self.done("call", "--to", "vote@club.example", "--at", self.host.at, "--box")
@@ -53,16 +54,15 @@ class Letters(AskedTest):
         # a wrong address can be put right, as long as no letter has a link to it
         self.done("call", *boxes.UNTIL, "--at", self.host.at.replace("http:", "https:"))
         self.done("call", "--at", self.host.at)
-        self.assertIn("\nWeb box: not asked yet\n", self.told("status"))
+        self.tells("status", "\nWeb box: not asked yet\n")
         self.demand_unseen("call")
-        fault = f"{self.host.at}vote.php: it answers 404"
-        self.refused("add --box", fault, "nothing was added")
+        self.refused("add --box", f"{self.host.at}vote.php: it answers 404", "nothing was added")
         # what is written all the same says that the page takes none, and the log why
         self.done(f"letters call {FORCED}")
         for text in self.texts("call").values():
             self.assertIn("The page takes no ballots now", text)
             self.assertEqual((boxes.LINK.search(text), " _,_,_,_" in text), (None, True))
-        self.assertIn('"because": "The host is down."', self.told("log --json"))
+        self.tells("log --json", '"because": "The host is down."')
         # where nothing stops it is not told, and letters have the link
         self.upload()
         self.done("add --box")
@@ -83,7 +83,7 @@ class Letters(AskedTest):
         self.done("letters call")
         # what lies at the address of now is fetched first
         following = "\nNext: run debvote-election add --box, then upload the files of call to"
-        self.assertIn(following, self.told("call --until '2099-12-06 18:00'"))
+        self.tells("call --until '2099-12-06 18:00'", following)
         # nor is an asking at another address one
         self.move()
         self.demand_unseen("call", "reminders")
@@ -103,12 +103,12 @@ class Letters(AskedTest):
         self.done(f"letters reminders --yes {FORCED}")
         # the clock of the host is behind, so that by both clocks ten minutes are past
         self.off(700)
-        self.assertIn("seconds behind", self.told("add --box"))
+        self.tells("add --box", "seconds behind")
         asked = datetime.datetime.fromisoformat((self.scratch / "clock").read_text()).astimezone(
             BERLIN
         )
         said = f"Web box: 0 records when it was asked last, {asked:%Y-%m-%d %H:%M:%S} UTC+01:00\n"
-        self.assertIn(said, self.told("status"))
+        self.tells("status", said)
         fault = "would be told that they have not: when the web box was asked last, it was only "
         self.refused("letters reminders --yes", fault)
 
@@ -128,7 +128,7 @@ class Letters(AskedTest):
         # the book has the key of the box
         wait = "until Saturday, {} December 2099, 18:00 (UTC+01:00) ballots come: debvote-election add FILE, or debvote-election desk"
         backup = "copy the book to another disk: debvote-election backup FILE; then "
-        self.assertIn(f"Next: {backup}until Friday, 4 ", self.told("add --box"))
+        self.tells("add --box", f"Next: {backup}until Friday, 4 ")
         self.done("backup", self.scratch / "copy.db")
         self.done("call --until '2099-12-05 18:00'")
         self.upload()
@@ -150,8 +150,8 @@ class Letters(AskedTest):
         demand("debvote-election count", self.told("add --box"))
 
 
-@NEEDS_PHP
 class Closes(AskedTest):
+    @pytest.mark.whole
     def test_an_early_one_and_after_it(self):
         self.begun(ada=RANKS)
         self.add_box()
@@ -164,8 +164,8 @@ class Closes(AskedTest):
         self.add_box()
         self.later()
         note = "Note: the page still takes ballots, and says that they arrived: debvote-election count asks for them once more."
-        self.assertIn(note, self.told("close --early"))
-        self.assertIn("\nThen: debvote-election count\nThen: ", self.told("status"))
+        self.tells("close --early", note)
+        self.tells("status", "\nThen: debvote-election count\nThen: ")
         fault = "--box: the web box was not asked since the vote was closed early"
         (self.web / "vote.php").rename(self.web / "away")
         for words in ("count", "letters closed"):
@@ -189,7 +189,7 @@ class Closes(AskedTest):
         self.assertIn("The web box has 2 records.\n", ended.faults)
         self.done("count")
         self.assertEqual(self.acts()[before:], ["letters"])
-        self.assertIn("it arrived after the vote was closed", self.told("held"))
+        self.tells("held", "it arrived after the vote was closed")
         self.done("letters closed")
         # a later close needs none
         self.done(REOPEN)
@@ -267,8 +267,7 @@ class Closes(AskedTest):
         self.assertIn("The web box has 4 records.\n", ended.output)
         self.assertEqual((self.acts()[-1], self.standing()), ("letters", {}))
         # what is kept stops it until it is entered, and nothing is asked again
-        pending = "these letters arrived in time, and wait: 1, 2, 3;"
-        self.refused("close", pending)
+        self.refused("close", "these letters arrived in time, and wait: 1, 2, 3;")
         self.assertEqual(len(self.acts()), asked)
         self.add_box()
         asked = len(self.acts())
@@ -301,7 +300,7 @@ class Closes(AskedTest):
             self.assertEqual(self.acts()[before:], asked)
         self.done("close")
         self.assertEqual(self.acts()[before], "close")
-        self.assertEqual(self.standing(), {"ada": RANKS})
+        self.assert_standing(ada=RANKS)
         self.done("log --check")
 
     def test_a_click_just_before_an_early_one(self):
@@ -355,7 +354,6 @@ class Closes(AskedTest):
         self.assertIn(lost, Terminal(self, "close", "--early").end()[0])
 
 
-@NEEDS_PHP
 class Pages(AskedTest):
     """An asking fetches the page, too: of a forgotten upload, and of a host that changes it."""
 
@@ -378,18 +376,17 @@ class Pages(AskedTest):
         said = " ".join(re.sub("<[^>]+>", "", self.read(name).decode()) for name in files)
         return " ".join(said.split())
 
+    @pytest.mark.whole
     def test_one_that_nobody_uploaded(self):
         """An extension makes a new one, which goes up before its letters go out: they ask
         themselves.
         """
         self.call()
         (self.web / "index.html").unlink()
-        missing = "Note: the page did not come: it answers 404: "
-        self.assertIn(missing, self.told("add --box"))
+        self.tells("add --box", "Note: the page did not come: it answers 404: ")
         self.demand_unseen("call")
         self.upload()
-        said = self.told("letters call")
-        self.assertIn("The web box has 0 records.\n", said)
+        said = self.tells("letters call", "The web box has 0 records.\n")
         self.assertNotIn("Note: the page", said)
         self.assertEqual((self.acts()[-2:], self.is_present()), (["letters", "letters out"], True))
         # an asking that saw page and links of now is enough
@@ -417,12 +414,13 @@ class Pages(AskedTest):
         self.assertNotIn("Note: the page", self.told("add --box"))
         self.done("log --check")
 
+    @pytest.mark.whole
     def test_one_with_a_script_more(self):
         """It stops each close until the right one is found; each day with it is told."""
         self.begun(ada=RANKS)
         self.change()
         # a look keeps nothing
-        self.assertIn(self.other, self.told("add --box --look"))
+        self.tells("add --box --look", self.other)
         self.assertTrue(self.is_present())
         morning, days = now(86_400).replace(hour=10), []
         self.later(int((morning - now()).total_seconds()))
@@ -431,13 +429,12 @@ class Pages(AskedTest):
             self.assertEqual(self.other in self.add_box(), hours < 24)
             days.append(f"{now(self.devices_off).day}")
             for _ in range(2 if hours == 23 else 0):
-                fault = "the page on the web host was not that of the call"
-                self.refused("close --early", fault)
+                self.refused("close --early", "the page on the web host was not that of the call")
                 self.done(f"close --early {FORCED}")
                 self.done(REOPEN)
             if hours == 23:
                 self.upload()
-        self.assertEqual(self.standing(), {"ada": RANKS})
+        self.assert_standing(ada=RANKS)
         told = rf"When the secretary asked the web host on \w+, (\d+) .{{20,60}}, the page at {self.host.at} {DOUBT}"
         self.assertEqual(re.findall(told, self.published()), [days[0], days[2]] * 2)
 
@@ -460,13 +457,12 @@ class Pages(AskedTest):
                 (b" 200 ", b" 503 ", "the page did not come: it answers 503: "),
                 (end, policy + end, "the web host sends its page with a Content-Security-Policy"),
             ):
-                self.assertIn(f"Note: {note}", self.add_box())
+                self.add_box(f"Note: {note}")
             said = self.published()
         self.assertNotIn(DOUBT, said)
         self.assertEqual(said.count(f"it did not show the page at {between.at}"), 2)
 
 
-@NEEDS_PHP
 class Moved(AskedTest):
     """`call --at` another web host, after letters went out with links to the page of before."""
 
@@ -482,7 +478,7 @@ class Moved(AskedTest):
         following = f"\nNext: upload the files of call to {self.host.at}, vote.php too; then debvote-election add --box; then "
         self.assertIn("\nNext: 1 receipt is not written: ", said)
         self.say_done()
-        self.assertIn(following, self.told("call"))
+        self.tells("call", following)
         self.upload()
         # what the other host had is not missed here, nor does its clock say anything of this one
         self.host_off(-50)
@@ -490,15 +486,15 @@ class Moved(AskedTest):
         self.assertNotIn("has no more", self.add_box())
         self.assertNotIn(before, self.told("call"))
         shutil.copy(file, self.folder / "fetched.php")
-        said = self.told("add --yes fetched.php")
-        self.assertIn("1 letter waits; 1 copy passed over.", said)
+        said = self.tells("add --yes fetched.php", "1 letter waits; 1 copy passed over.")
         self.done("held 4 --enter")
-        self.assertEqual(self.standing(), dict.fromkeys(("ada", "cleo", "ben"), RANKS))
+        self.assert_standing(**dict.fromkeys(("ada", "cleo", "ben"), RANKS))
         # of each host that is asked again it is said
         self.done("call", "--at", before)
         file.write_bytes(FIRST)
-        self.assertIn("Note: 1 record that it had it has no more.", self.add_box())
+        self.add_box("Note: 1 record that it had it has no more.")
 
+    @pytest.mark.whole
     def test_a_new_link_for_who_has_used_one_up(self):
         links = self.begun()
         for number in range(MOST):
@@ -511,8 +507,7 @@ class Moved(AskedTest):
             ("ada", "ada (Ada): a new link. Is that right?"),
         ):
             self.assertIn(said, self.election(f"roll --new-link {name}").faults)
-        said = self.told("roll --new-link ada --yes")
-        self.assertIn("ada: a new link\n", said)
+        said = self.tells("roll --new-link ada --yes", "ada: a new link\n")
         self.upload()
         self.done("add --box")
         self.done("letters call")
@@ -521,10 +516,11 @@ class Moved(AskedTest):
         self.click("ada", OTHER)
         self.later(60)
         self.add_box()
-        self.assertEqual(self.standing(), {"ada": OTHER})
+        self.assert_standing(ada=OTHER)
         self.done("close --early")
         self.refused("roll --new-link ada", none.format("ada"), status=2)
 
+    @pytest.mark.whole
     def test_the_call_goes_to_everybody_again(self):
         self.begun()
         self.demand_reached(*NAMES)

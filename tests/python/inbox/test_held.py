@@ -178,19 +178,10 @@ class Entered(HeldTest):
         self.assert_left(1, f"ada {RANKS}")
 
     def test_wrong_words(self):
-        for words in (
-            "--set-aside",
-            "1 --enter --wait",
-            "9",
-            "--enter",
-            "1 2 --as 'ada 1'",
-            f"--as 'ada {RANKS}'",
-            "1 --enter --as 'ada 1'",
-            "1 --enter 5x",
-        ):
+        wrong = f"--set-aside|1 --enter --wait|9|--enter|1 2 --as 'ada 1'|--as 'ada {RANKS}'"
+        for words in f"{wrong}|1 --enter --as 'ada 1'|1 --enter 5x".split("|"):
             with self.subTest(words):
-                ended = self.election(f"held {words}")
-                self.assertEqual((ended.status, self.lines()), (2, []))
+                self.assertEqual((self.election(f"held {words}").status, self.lines()), (2, []))
         said = "--force: it is for one letter; nothing was changed: name one number\n"
         self.assert_refused("held 1 2 --enter --force not-tied --force voted-since", 2, said)
 
@@ -271,7 +262,7 @@ class Entered(HeldTest):
         self.stops("4 --enter", f"letter 4: {said}")
         for number in (4, 5):
             self.told(f"held {number} --enter --force not-tied --force voted-since")
-        self.assertEqual(self.lines(), [f"fay {RANKS}", f"fay {RANKS}", f"fay {OTHER}"])
+        self.assert_lines(f"fay {RANKS}", f"fay {RANKS}", f"fay {OTHER}")
 
     def test_what_the_secretary_types(self):
         """The ballot has the time of the letter, and is tied to it, so nobody is told that the
@@ -309,7 +300,7 @@ class Entered(HeldTest):
         self.told(f"held {fay} --force not-tied --force voted-since")
         self.told(f"held 4 --as 'gus {RANKS}'")
         lines = f"ada {RANKS}", f"fay {OTHER}", "gus 1,2", f"fay {RANKS}", f"gus {RANKS}"
-        self.assertEqual(self.lines(), [*lines])
+        self.assert_lines(*lines)
 
     def test_what_was_typed_and_taken_back_is_typed_again(self):
         """Its own line may say something else."""
@@ -338,8 +329,7 @@ class Entered(HeldTest):
         self.agrees("5 --enter --force not-tied")
         self.told("undo --yes")
         self.told("held 4 5 --set-aside")
-        said = "0 ballots of letters went in; 2 letters wait; 3 copies passed over."
-        self.add(*again, says=said)
+        self.add(*again, says="0 ballots of letters went in; 2 letters wait; 3 copies passed over.")
         # one that has to wait nevertheless does not replace in silence what was typed
         self.told("held 6 --wait")
         self.stops("6 --enter --yes", f"letter 6: it has 1 ballot{LIKE_ANSWERS}")
@@ -348,8 +338,7 @@ class Entered(HeldTest):
     def test_a_copy_waits_behind_another_ballot_than_was_typed(self):
         """Not if what was typed is taken back."""
         for number, name, is_undone in ((3, "fay", False), (6, "gus", True)):
-            typed = letter(name, "the hall, please\n", number=7)
-            self.add(typed)
+            self.add(letter(name, "the hall, please\n", number=7))
             self.told(f"held {number} --as '{name} {OTHER}'")
             if is_undone:
                 self.told("undo --yes")
@@ -441,7 +430,7 @@ class Couple(HeldTest):
         self.tells("held", "        several lines of it are ballots; ada has voted since\n")
         self.stops(self.both, self.untied, "letter 1: its elector has voted since")
         self.told(f"held {self.as_ben} --force not-tied --force voted-since")
-        self.assertEqual(self.lines(), [f"ada {OTHER}", self.ben])
+        self.assert_lines(f"ada {OTHER}", self.ben)
 
 
 class RealNamesOfLetters(HeldTest):
@@ -582,8 +571,7 @@ class InARow(LettersTest):
             letter("cleo", "later\n"),
             letter("dan", "hello\n"),
         )
-        said = "2 letters of one reason; of these numbers 1 wait on.\n"
-        self.tells("held 1-3 --set-aside", said)
+        self.tells("held 1-3 --set-aside", "2 letters of one reason; of these numbers 1 wait on.\n")
         self.assertEqual(self.numbers()["waiting"], 2)
         # with one of its own beside them; and those that wait no more are none of them
         said = "1 letter of one reason; of these numbers 0 wait on.\nNo letter waits."
@@ -591,5 +579,4 @@ class InARow(LettersTest):
         for words in ("1-4", "7-9"):
             self.assert_refused(f"held {words} --set-aside", 9, "none of these waits")
         for how in ("--enter", "--wait"):
-            said = "only --set-aside takes several in a row"
-            self.assert_refused(f"held 1-2 {how}", 2, said)
+            self.assert_refused(f"held 1-2 {how}", 2, "only --set-aside takes several in a row")

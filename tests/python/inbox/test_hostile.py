@@ -6,6 +6,8 @@ import time
 import unittest
 import unittest.mock
 
+import pytest
+
 from debvote_tools.cli.console import shown_text
 from debvote_tools.inbox import vote
 from debvote_tools.inbox.letter import ParsedLetter
@@ -17,6 +19,7 @@ from tests.support.letters import (
     IN,
     NAMES,
     OTHER_RANKS,
+    RANDOM_LETTERS,
     RANKS,
     alternatives,
     calls_while_read,
@@ -45,6 +48,7 @@ def timed(*letters: bytes, **known: object) -> tuple[list[str], float]:
 
 
 class Bombs(unittest.TestCase):
+    @pytest.mark.whole
     def test_each_ends_soon(self):
         """None of 300 KB takes twice as long as one with as many words, none of any size twenty
         times.
@@ -258,7 +262,7 @@ class Random(unittest.TestCase):
     def test_bytes_of_any_kind(self):
         """What is read of them can be shown and kept."""
         chance = random.Random(1)
-        for _ in range(3_000):
+        for _ in range(RANDOM_LETTERS // 5):
             self.shown(parsed(self.changed(chance, b'\0\r\n\xff\x80;:="<>-b ', 20)))
         # halves of characters
         for charset, text in (
@@ -276,12 +280,15 @@ class Random(unittest.TestCase):
 
     def test_no_ballot_goes_in_but_one_that_is_there(self):
         chance = random.Random(7)
-        letters = [self.changed(chance, b'\r\n \t;:="<>/\0\x80', 4) for _ in range(1_500)]
+        letters = [
+            self.changed(chance, b'\r\n \t;:="<>/\0\x80', 4) for _ in range(RANDOM_LETTERS // 10)
+        ]
         found = collections.Counter(one for data in letters for one in outcomes(data))
         # but one in which a byte of the ranks is another
         self.assertLessEqual({one for one in found if one[:3] == "in:"}, {IN, "in: ada 1,2,-,3"})
-        self.assertGreater(found[IN], 80)
+        self.assertGreater(found[IN], len(letters) // 20)
 
+    @pytest.mark.whole
     def test_many_at_once(self):
         """Each takes no longer than among few."""
         several = [

@@ -3,9 +3,11 @@
 import hashlib
 from unittest import mock
 
+import pytest
+
 from debvote_tools.book import queries
 from debvote_tools.election import POLL_WITH_NAMES
-from debvote_tools.inbox import entering, signature
+from debvote_tools.inbox import entering, given_files, signature
 
 from tests.support import elections, pgp
 from tests.support.election_books import LAKE, LettersTest
@@ -14,7 +16,7 @@ from tests.support.terminal import Terminal
 
 
 # asks for the lock of the book while debvote would run, and notes both
-ASKING = """#!/usr/bin/python3
+ASKING = """#!/usr/bin/python3 -IS
 import os, sqlite3, sys
 connection = sqlite3.connect({book!r}, timeout=0, isolation_level=None)
 try:
@@ -51,7 +53,7 @@ class Adding(LettersTest):
         box = self.box(ada)
         # elsewhere than at a terminal nobody is asked
         self.assert_fault(self.election("add", box), 9, "--yes", "the letters are kept")
-        self.assertEqual(self.lines(), [])
+        self.assert_lines()
         self.assert_waiting(1, 1)
         self.assertIn(f"1 counted  ada: {LAKE}\n", self.told("add", "--yes", box))
         # what came is kept as it came
@@ -75,7 +77,7 @@ class Adding(LettersTest):
                 "it came from s@x.example, but the list of members has dan@club.example for dan",
             ),
         )
-        self.assertEqual(self.lines(), [f"ada {RANKS}", f"cleo {RANKS}", f"cleo {OTHER}"])
+        self.assert_lines(f"ada {RANKS}", f"cleo {RANKS}", f"cleo {OTHER}")
         self.tells("status", "2 letters wait")
         # of those that an earlier run has brought only their number is told
         eve = "\n     6  2026-11-23 10:00:00 UTC  eve@club.example"
@@ -89,8 +91,12 @@ class Adding(LettersTest):
         )
         told = [said.count(part) for part in ("no ballot found", "für den See", "s@x.example")]
         self.assertEqual(told, [1, 0, 0], said)
-        said = self.add(ben, letter("gus", "hello", number=4), words="--look")
-        self.assertIn("   new  2026-11-23 10:00:00 UTC  gus@club.example", said)
+        said = self.add(
+            ben,
+            letter("gus", "hello", number=4),
+            words="--look",
+            says="   new  2026-11-23 10:00:00 UTC  gus@club.example",
+        )
         self.assertEqual((said.count("no ballot found"), "4 letters wait" in said), (1, True), said)
 
     def test_undo_is_named_where_something_can_be_taken_back(self):
@@ -107,7 +113,7 @@ class Adding(LettersTest):
         for told in ("2 new letters; 0 came before.", "0 new letters; 2 came before."):
             self.write("outer.mbox", within(letter("ada", "hello"), inner))
             self.tells("add --yes outer.mbox", told)
-            self.assertEqual(self.lines(), [])
+            self.assert_lines()
         self.assertIn("1 new letter; 0 came before.", self.told("add", "--yes", self.box(inner)))
         self.assertEqual(self.stands("ben"), RANKS)
         # also where both come in one command, in any order
@@ -119,7 +125,9 @@ class Adding(LettersTest):
 
     def test_a_mailbox_longer_than_any_file_of_lines(self):
         """Else what is beyond that length would be in no list, and nobody would be told."""
-        picture = f"--b\nContent-Type: image/png\n\n{'x' * 70}\n{f'{chr(120) * 70}{chr(10)}' * 100_000}--b--\n"
+        self.enterContext(mock.patch.object(given_files, "BALLOTS_LIMIT", 50_000))
+        line = "x" * 70 + "\n"
+        picture = f"--b\nContent-Type: image/png\n\n{line * 200}--b--\n"
         long = [
             letter("cleo", picture, kind="multipart/mixed; boundary=b", number=number)
             for number in range(5)
@@ -127,7 +135,7 @@ class Adding(LettersTest):
         said = "1 ballot of letters went in; 5 letters wait."
         self.add(*long, ballot("ada"), says=said)
         self.tells("add --yes", said, given=self.of_this_vote(mailbox(*long, ballot("ben"))))
-        self.assertEqual(self.lines(), [f"ada {RANKS}", f"ben {RANKS}"])
+        self.assert_lines(f"ada {RANKS}", f"ben {RANKS}")
 
     def test_a_line_for_each_ballot(self):
         """Greetings, farewells, signatures, quotations and what a telephone adds are no words to be
@@ -174,7 +182,7 @@ class Adding(LettersTest):
         desk.end()
         self.told("held 2 --wait")
         self.add_hello("cleo")
-        self.assertEqual(self.lines(), [f"ada {RANKS}"])
+        self.assert_lines(f"ada {RANKS}")
 
     def test_an_older_letter_after_lines(self):
         """A line that was refused is no later ballot, and one that was struck, or is late, holds
@@ -297,6 +305,7 @@ class Adding(LettersTest):
         said = "it does not look like a letter, and was passed over; if it is a letter, save it as .eml\n"
         self.tells("add --look box", *told, f"box/notes.txt: {said}")
 
+    @pytest.mark.whole
     def test_letters_of_after_the_first_close(self):
         self.set_clock("2026-11-24T09:00:00+00:00")
         self.cast(f"ada {RANKS}")
@@ -322,9 +331,10 @@ class Adding(LettersTest):
         self.assert_refused("held 1 3 --enter --yes", 9, said)
         for number in (1, 2, 3):
             self.told(f"held {number} --enter --yes")
-        self.assertEqual(self.lines(), [f"ada {RANKS}", f"dan {RANKS}"])
+        self.assert_lines(f"ada {RANKS}", f"dan {RANKS}")
         self.assertEqual(self.late_lines(), [f"ben {RANKS}", f"cleo {RANKS}"])
 
+    @pytest.mark.whole
     def test_undo_names_no_command_that_would_stop(self):
         self.cast(f"ada {OTHER}")
         # one of who has voted since, of the time of another ballot, with the mark of another vote,
@@ -347,7 +357,7 @@ class Adding(LettersTest):
         box = *map(ballot, ("ada", "ben", "cleo")), letter("dan", "hello")
         self.add(*box)
         self.tells("undo --yes", "\nNext: 4 letters wait: debvote-election held\n")
-        self.assertEqual(self.lines(), [])
+        self.assert_lines()
         self.tells("held", "its ballot was taken back")
         self.assert_refused("close", 9, "these letters arrived in time, and wait: 1, 2, 3, 4")
         # a copy with another head is the same letter
@@ -358,7 +368,7 @@ class Adding(LettersTest):
         self.cast(f"ben {OTHER}")
         self.assert_refused("held 1 2 3 --enter", 9, "letter 2: its elector has voted since")
         self.tells("held 1 3 --enter", "\n5 counted  ada: At the lake", "\n2 letters wait.\n")
-        self.assertEqual(self.lines(), [f"ben {OTHER}", f"ada {RANKS}", f"cleo {RANKS}"])
+        self.assert_lines(f"ben {OTHER}", f"ada {RANKS}", f"cleo {RANKS}")
         self.told("strike 5 --because 'she asked for it'")
         self.tells("held", "2 letters wait", "Set aside: 1")
         self.tells("held 1", "its ballot was struck")
@@ -385,6 +395,7 @@ class ReadOnce(LettersTest):
         self.assertLessEqual({said for _, said in asked}, {"free"}, typed)
         return [task for task, _ in asked]
 
+    @pytest.mark.whole
     def test_of_lines_twice_or_three_times(self):
         """Three times where a line is no ballot: then it is asked whether all look like a table."""
         lines = f"Ada {RANKS}\nGsu {RANKS}\nben {RANKS}\n"
@@ -437,6 +448,7 @@ class ReadOnce(LettersTest):
         self.assertEqual(self.runs("held"), [])
         self.assertIn("no ballot found; has voted since", self.shown)
 
+    @pytest.mark.whole
     def test_no_letter_slows_down_later_commands(self):
         """Whatever is in it: of each letter some hundred lines are kept, and no command asks
         debvote about them again.
@@ -497,6 +509,7 @@ class InTime(LettersTest):
         self.assert_tie("count", publish)
         return self.read("result/index.html").decode()
 
+    @pytest.mark.whole
     def test_what_was_added_after_the_close_is_set_aside_at_any_time(self):
         """With other words, or one to which nobody agreed; no ballot, or one that came after the
         publication.
@@ -595,6 +608,7 @@ class InTime(LettersTest):
         )
         self.tells("close", said)
 
+    @pytest.mark.whole
     def test_forced_at_the_close(self):
         self.add(self.wordy)
         # before the close a count is no result
@@ -738,7 +752,7 @@ class Signed(LettersTest):
         copies = [self.signed(name, number=2) for name in ("ada", "ben", "eve", "fay")]
         self.add(once_more(self.signed("fay")), *copies, says=f"{WENT_IN(0)}; 0 letters wait; ")
         self.assert_waiting(0)
-        self.assertEqual(self.lines(), [f"eve {RANKS}", f"ada {RANKS}", f"ben {RANKS}"])
+        self.assert_lines(f"eve {RANKS}", f"ada {RANKS}", f"ben {RANKS}")
         self.told("close")
 
     def test_one_that_was_set_aside_stays_so(self):
@@ -754,7 +768,7 @@ class Signed(LettersTest):
         # nor does a copy go in while nobody can say that it is one
         said = self.while_gpgv_is_slow("add", "--yes", str(self.box(self.signed("ada"))))
         self.assertIn(f"{WENT_IN(0)}; 2 letters wait; 1 copy passed over.", said)
-        self.assertEqual(self.lines(), [])
+        self.assert_lines()
         said = "it may be a copy of a letter that was dealt with, about which gpgv did not answer in time"
         self.assertIn(said, self.while_gpgv_is_slow("held"))
 
@@ -790,7 +804,7 @@ class OwnMarks(LettersTest):
                 "its subject has the own mark that eve had until 2026-11-25 09:00:00 UTC",
             ),
         )
-        self.assertEqual(self.lines(), [f"ada {RANKS}"])
+        self.assert_lines(f"ada {RANKS}")
         self.assertEqual(said.count("its subject lacks the own mark of"), 2, said)
         # none of them is tied to its elector
         for number, name in enumerate(("ben", "cleo", "dan", "eve"), start=2):
@@ -808,4 +822,4 @@ class SecretOwnMarks(OwnMarks):
         said = f"\nLetters of other votes, which are passed over here: 1 with [{of_names}].\n"
         self.add(ballot("ada").replace(elections.ANY_MARK.encode(), of_names.encode()), says=said)
         self.add(ballot("ada", number=2))
-        self.assertEqual(self.lines(), [f"ada {RANKS}"])
+        self.assert_lines(f"ada {RANKS}")

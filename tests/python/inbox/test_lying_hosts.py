@@ -6,6 +6,8 @@ import re
 import unittest
 import zoneinfo
 
+import pytest
+
 from debvote_tools.call.box import proof_digest, third_part
 from debvote_tools.inbox.box_records import MOST
 from debvote_tools.inbox.letter import ParsedLetter
@@ -14,13 +16,12 @@ from tests.support import boxes, sealing
 from tests.support.boxes import OTHER, RANKS, now
 from tests.support.elections import NAMES
 from tests.support.letters import OWN, at, at_time, judged, letter, outcome, outcomes, parsed
-from tests.support.web_host import NEEDS_PHP, record
+from tests.support.web_host import record
 
 BERLIN = zoneinfo.ZoneInfo("Europe/Berlin")
 MINUTE = datetime.timedelta(minutes=1)
 
 
-@NEEDS_PHP
 class Lies(boxes.BoxElectionTest):
     def last_asked(self) -> datetime.datetime:
         return datetime.datetime.fromisoformat(str(self.boxes_kept()[-1]["time"]))
@@ -62,8 +63,8 @@ class Lies(boxes.BoxElectionTest):
             found = [kept[key] for key in ("gone", "unopened", "records")]
             self.assertEqual([*found, {*kept["lost"]}], wanted, said)
             self.assertEqual("that it had it has no more" in said, is_told)
-            self.assertEqual(self.standing(), {"ada": RANKS})
-        self.assertIn("it is older than", self.told("held"))
+            self.assert_standing(ada=RANKS)
+        self.tells("held", "it is older than")
 
     def test_it_exchanges_the_times_of_two_ballots(self):
         """The older one would count. Asked at once, or of two askings."""
@@ -77,13 +78,13 @@ class Lies(boxes.BoxElectionTest):
         # of ben the second comes first
         self.keep(first.replace(one, other), second.replace(other, one), later)
         why = "by the clocks of their devices it is not later than a ballot of its elector that came before it"
-        self.assertIn(why, self.add_box())
+        self.add_box(why)
         self.later()
         self.add_box()
         asked = f"{self.last_asked():%H:%M:%S}".encode()
         self.keep(*self.records(), re.sub(rb"\d\d:\d\d:\d\d", asked, of_ben))
-        self.assertIn(why, self.add_box())
-        self.assertEqual(self.standing(), {"ada": OTHER, "ben": OTHER})
+        self.add_box(why)
+        self.assert_standing(ada=OTHER, ben=OTHER)
         # what waits is entered by who knows better
         self.assertEqual(self.told("held").count(why), 2)
 
@@ -98,8 +99,8 @@ class Lies(boxes.BoxElectionTest):
             self.record(f"ben {RANKS}", when, sent=when - 9 * MINUTE),
         )
         self.off(1)
-        self.assertIn("more than ten minutes from the time of the web host", self.add_box())
-        self.assertEqual(self.standing(), {"ada": OTHER, "ben": RANKS})
+        self.add_box("more than ten minutes from the time of the web host")
+        self.assert_standing(ada=OTHER, ben=RANKS)
         # beside the time of the host `show` has that of the device, which is the one that its
         # elector knows
         nine = f"{when - 9 * MINUTE:%H:%M:%S}"
@@ -110,6 +111,7 @@ class Lies(boxes.BoxElectionTest):
         said = f"{nine.removesuffix(':00')} (UTC+01:00) has arrived. It counts"
         self.assertIn(said, self.receipts()["ben"])
 
+    @pytest.mark.whole
     def test_each_that_does_not_open_alone_beside_good_ones(self):
         self.begun(ada=RANKS)
         good, when, mark = self.records(), now(), self.mark()
@@ -151,7 +153,7 @@ class Lies(boxes.BoxElectionTest):
             # it is told when the number grows
             self.assertEqual("1 record can't be opened" in said, what == "another number")
             self.assertEqual(self.standing(), {"ada": RANKS}, what)
-        self.assertIn("No letter waits.", self.told("held"))
+        self.tells("held", "No letter waits.")
         # as it should be it opens
         self.keep(*good, holding(line, place, sent))
         self.add_box()
@@ -193,9 +195,10 @@ class Lies(boxes.BoxElectionTest):
         # the host dates it so, and dan's device
         ahead = self.record(f"dan {OTHER}", now(), sent=now(86_400))
         self.keep(*whole, ahead, self.record(f"ada {OTHER}", now(300), sent=now()))
-        said = self.add_box()
-        self.assertIn("10 ballots of letters went in; 2 letters wait", said)
-        self.assertIn("or that of the web host when it was asked", said)
+        self.add_box(
+            "10 ballots of letters went in; 2 letters wait",
+            "or that of the web host when it was asked",
+        )
         # of a year that no clock has no time is known: kept, it would stop each later command
         year = datetime.datetime.max.replace(tzinfo=datetime.UTC)
         self.keep(*whole, self.record(f"cleo {RANKS}", year, sent=now()))
@@ -203,11 +206,11 @@ class Lies(boxes.BoxElectionTest):
         self.click("dan")
         self.off(400)
         self.add_box()
-        self.assertIn("no Received line at its top says when it arrived", self.told("held"))
-        standing = {"ada": "2,1,3,4", "ben": "1,1,1,1", "dan": RANKS}
-        self.assertEqual(self.standing(), standing)
+        self.tells("held", "no Received line at its top says when it arrived")
+        self.assert_standing(ada="2,1,3,4", ben="1,1,1,1", dan=RANKS)
         self.refused("close --early", "these letters arrived in time, and wait: ")
 
+    @pytest.mark.whole
     def test_who_is_to_vote_again(self):
         """By whose proof came what nobody can open: named until a later ballot comes."""
         note = (
@@ -218,10 +221,10 @@ class Lies(boxes.BoxElectionTest):
         self.assertEqual(self.status()["lost"], [])
         self.later()
         self.click_unopened("ada", "ben")
-        self.assertIn(f"Note: 2 {note} ada, ben, who are to vote again.", self.add_box())
+        self.add_box(f"Note: 2 {note} ada, ben, who are to vote again.")
         self.assertEqual(self.status()["lost"], ["ada", "ben"])
         said = "Ballots that nobody can open, and no later ones, by the links of (2):\n  ada ben\n"
-        self.assertIn(said, self.told("status"))
+        self.tells("status", said)
         self.done("letters reminders")
         texts = self.texts("reminders")
         self.assertEqual(sorted(texts), NAMES)
@@ -234,7 +237,7 @@ class Lies(boxes.BoxElectionTest):
         for ranks in (OTHER, "", "2,1,3,4"):
             self.later()
             self.click("ada", ranks) if ranks else self.click_unopened("ada")
-        self.assertIn(f"Note: 3 {note} ben, who are to vote again.", self.add_box())
+        self.add_box(f"Note: 3 {note} ben, who are to vote again.")
         self.assertEqual(self.status()["lost"], ["ben"])
         fault = "by the links of these electors that nobody can open, and no later ones: ben; "
         self.refused("close --early", fault, "ask them to vote again")

@@ -9,7 +9,7 @@ import unittest
 from collections.abc import Iterable, Iterator, Mapping, Sequence
 
 from debvote_tools.inbox.letter_lines import with_texts
-from debvote_tools.inbox.rules import LetterCase, LetterOutcome
+from debvote_tools.inbox.rules import LetterCase, Ruling
 from debvote_tools.text.ballots import ranks_by_label
 from debvote_tools.text.motions import words_of
 
@@ -463,9 +463,8 @@ class Otherwise(unittest.TestCase):
             (BY_ADVERSARY, BY_ADVERSARY_OF_SEVERAL, "ada"),
         ):
             for text, one in judged(texts, of_several, name):
-                self.assertEqual(one.outcome, LetterOutcome.WAITS, text)
-                is_twice = len({*text.split("\n")}) == 1
-                self.assertTrue(not one.is_nothing_else or is_twice, text)
+                self.assertEqual(one.ruling, Ruling.WAITS, text)
+                self.assertTrue(not one.is_nothing_else or len({*text.split("\n")}) == 1, text)
 
     def test_the_ballots_alone_go_in(self):
         """So it is the rest that keeps them out."""
@@ -478,4 +477,4 @@ class Otherwise(unittest.TestCase):
         texts = [form.format("ada 1,2,4,3") for form in forms]
         of_several = [form.format(ballot) for form in forms for ballot in several]
         for text, one in judged(texts, of_several, "ada"):
-            self.assertEqual(one.outcome, LetterOutcome.GOES_IN, text)
+            self.assertEqual(one.ruling, Ruling.GOES_IN, text)

@@ -10,8 +10,10 @@ import re
 import unittest
 from collections.abc import Iterator, Mapping, Sequence
 
+import pytest
+
 from debvote_tools.inbox.letter_lines import with_texts
-from debvote_tools.inbox.rules import LetterCase, LetterOutcome
+from debvote_tools.inbox.rules import LetterCase, Ruling
 from debvote_tools.text import motions
 from debvote_tools.text.ballots import ranks_by_label
 
@@ -93,6 +95,7 @@ def dense(ballot: str) -> str:
     return re.sub(r"[\d-]+(?:,[\d-]+)+", ranks, ballot)
 
 
+@pytest.mark.whole
 class People(unittest.TestCase):
     def test_each_is_read_as_it_is_meant_or_typed(self):
         """None goes in otherwise than it is meant, and of the answers none is proposed so; of the
@@ -105,7 +108,7 @@ class People(unittest.TestCase):
             is_right = sorted(dense(one.ballot.line) for one in case.to_enter) == sorted(
                 map(dense, meant)
             )
-            if case.outcome is LetterOutcome.GOES_IN:
+            if case.ruling is Ruling.GOES_IN:
                 self.assertTrue(is_right, text)
                 found[kind, "in"] += 1
             elif not case.to_enter:

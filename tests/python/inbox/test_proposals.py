@@ -50,7 +50,7 @@ class Loose(unittest.TestCase):
             with self.subTest(text):
                 [case] = judged(letter("ada", text, **kind))
                 self.assertEqual([one.ballot.line for one in case.to_enter], [BALLOT])
-                self.assertEqual((case.outcome.value, case.is_nothing_else), ("waits", False))
+                self.assertEqual((case.ruling.value, case.is_nothing_else), ("waits", False))
 
     def test_what_is_none(self):
         for text, found in (
@@ -183,18 +183,17 @@ class Shown(LettersTest):
         terminal = Terminal(self, "held", "3", "4", "--enter")
         first = terminal.until("There is more in it than a ballot. Enter 1 ballot? [y/n] ")
         self.assertIn("   1  1 2 4 3\n", first)
-        second = terminal.after("n\n", "Enter 1 ballot? [y/n] ")
-        self.assertIn("   2  So be it.\n", second)
+        self.assertIn("   2  So be it.\n", terminal.after("n\n", "Enter 1 ballot? [y/n] "))
         terminal.type("y\n")
         self.assertEqual(terminal.end()[1], 9)
-        self.assertEqual(self.lines(), [f"dan {RANKS}"])
+        self.assert_lines(f"dan {RANKS}")
         self.told("held", 3, "--as", RANKS.replace(",", " "))
         self.assert_refused(
             ["held", "1", "--enter", "--force", "voted-since"], 9, "--force not-tied"
         )
         self.assertEqual(self.election("held", "1", "--enter", "--force", "because").status, 2)
         self.told("held", 1, "--enter", "--force", "not-tied")
-        self.assertEqual(self.lines(), [f"dan {RANKS}", f"cleo {RANKS}", f"ada {RANKS}"])
+        self.assert_lines(f"dan {RANKS}", f"cleo {RANKS}", f"ada {RANKS}")
 
 
 class Damaged(LettersTest):

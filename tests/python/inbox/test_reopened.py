@@ -26,9 +26,6 @@ class Reopened(LettersTest):
         self.reopen()
         self.add_lines(OTHER, words=YES)
 
-    def closing_letter(self) -> str:
-        return " ".join(self.read("letters/closed.txt").decode().split())
-
     def test_a_late_line_is_entered_again_once(self):
         """It stays late; so does one that is refused, which replaces none. What was struck came.
         Only ballots are listed, while they are not in time.
@@ -71,14 +68,14 @@ class Reopened(LettersTest):
         self.assertIn("4 replaced  ada", said)
         self.assertEqual(self.stands("ada"), RANKS)
         note = "\nLate lines that replaced ballots in time: 1; the result page says so.\n"
-        self.assertIn(note, self.told("close"))
+        self.tells("close", note)
         self.assertEqual(self.last("close")["replaced_in_time"], 1)
         self.reopen()
         self.assertNotIn("Late lines that replaced", self.told("close"))
         self.told("publish")
         said = "1 late line was entered again, as one that had come before the first close, and replaced another ballot of its elector."
         self.assertEqual(self.read("result/index.html").decode().count(said), 1)
-        self.assertIn(said, " ".join(self.read("letters/result.txt").decode().split()))
+        self.assertIn(said, self.text("letters/result.txt"))
 
     def test_at_a_terminal_each_is_asked_about(self):
         self.beside_a_newer_one()
@@ -95,8 +92,7 @@ class Reopened(LettersTest):
         terminal.after("n\n", f"{bens}. Enter it? [y/n] ")
         terminal.type("y\n")
         self.assertEqual(terminal.end()[1], 0)
-        lines = [OTHER, f"ben {OTHER_RANKS}", f"ben {RANKS}", f"cleo {RANKS}"]
-        self.assertEqual(self.lines(), lines)
+        self.assert_lines(OTHER, f"ben {OTHER_RANKS}", f"ben {RANKS}", f"cleo {RANKS}")
 
     def test_at_a_desk(self):
         """A pipe goes on without such a line."""
@@ -124,7 +120,7 @@ class Reopened(LettersTest):
         for command in (["add", *YES, "late"], ["desk", *YES]):
             with (self.folder / "late").open() as given, mock.patch("sys.stdin", given):
                 self.overtaken(entering, "replaced_in_time", ("add", *YES, "newer"), command)
-            self.assertEqual(self.lines(), [OTHER])
+            self.assert_lines(OTHER)
             self.told("undo --yes")
 
     def test_a_look_says_what_add_would_ask(self):
@@ -150,13 +146,15 @@ class Reopened(LettersTest):
         self.done("close --early")
         when = "30 November 2026, 18:00 (UTC)"
         end = f"end: one should have been able to vote until Monday, {when}."
-        self.assertIn(f"computer. That was before the announced {end}", self.closing_letter())
+        self.assertIn(
+            f"computer. That was before the announced {end}", self.text("letters/closed.txt")
+        )
         self.reopen()
         self.set_clock("2026-11-30T18:00:00+00:00")
         self.told("close")
         # the first close was early, and not this one
         said = f"{when}, by the clock of the secretary's computer. The vote was closed on Wednesday, 25 November 2026, 09:00 (UTC), before its announced {end}"
-        self.assertIn(said, self.closing_letter())
+        self.assertIn(said, self.text("letters/closed.txt"))
         self.say_done("backup")
         self.assertIn(following.replace(" --early", ""), self.reopen())
 
@@ -190,12 +188,10 @@ class Reopened(LettersTest):
             ("add -", f"Note: the vote was closed at {last}; what is added now is late."),
         ):
             self.assertIn(part, self.told(words, given=BALLOT))
-        fault = f"the vote was closed at {last}, and its ballots stay"
-        self.refused("undo --yes", fault)
+        self.refused("undo --yes", f"the vote was closed at {last}, and its ballots stay")
         opened = at(12)
-        said = self.told("reopen --because 'a bag was found'")
-        self.assertIn(f"the close at {last} stays in the log", said)
-        self.assertIn(f"\nReopened: at {opened}\n", self.told("status"))
+        self.tells("reopen --because 'a bag was found'", f"the close at {last} stays in the log")
+        self.tells("status", f"\nReopened: at {opened}\n")
         fault = f"the vote was closed at {first} and opened again, and only what came before counts"
         self.assert_fault(self.election("add -", given=OTHER), 9, fault)
         # what comes by letter would wait until the end that the call says
@@ -205,7 +201,7 @@ class Reopened(LettersTest):
         self.refused("call --until '2026-12-24 12:00'", fault)
         self.add_lines(f"cleo {RANKS}", words=YES)
         self.told("close")
-        letter = self.closing_letter()
+        letter = self.text("letters/closed.txt")
         reason = "11:00 (UTC), and opened again. The reason, in the secretary's words: (a bag was found) This"
         self.assertIn(reason, letter)
         details = (detail for name, detail in self.acts() if name == "close")
@@ -242,7 +238,7 @@ class Reopened(LettersTest):
         self.told("close")
         self.add(self.wrote("ada", "11:00"))
         self.told("held 1 --enter")
-        self.assertIn("1 letter waits.", self.add(self.wrote("ada", "09:50")))
+        self.add(self.wrote("ada", "09:50"), says="1 letter waits.")
         self.assertIn("these letters arrived in time, and wait: 2;", self.election("count").faults)
         self.reopen()
         self.told("held 2 --enter --force not-tied --force voted-since")
@@ -256,7 +252,7 @@ class Reopened(LettersTest):
         self.told("call --take-back")
         self.told("call --to vote@club.example")
         call = self.last_act()
-        self.assertIn("it arrived before the call for votes", self.add(letter("ada", BALLOT)))
+        self.add(letter("ada", BALLOT), says="it arrived before the call for votes")
         self.told("held 1 --set-aside")
         self.told("close")
         self.refused("call --take-back", "the vote was closed at ", "electors rely on the close")
@@ -264,7 +260,7 @@ class Reopened(LettersTest):
         self.told("call --to vote@club.example")
         self.assertIn("1 counted", self.add_lines(BALLOT))
         self.set_clock("2026-11-25T10:00:00+00:00")
-        self.assertIn("2 counted", self.add(self.wrote("ben", "09:30")))
+        self.add(self.wrote("ben", "09:30"), says="2 counted")
         for words, stage in (
             ((), "called"),
             (("close",), "closed"),

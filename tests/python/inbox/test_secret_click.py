@@ -1,10 +1,11 @@
 """A click in a secret vote: what page and letters say, what counts, and what nobody is told."""
 
+import pytest
+
 from tests.support import boxes, elections
 from tests.support.boxes import OTHER, RANKS
 from tests.support.elections import NAMES
 from tests.support.terminal import Terminal
-from tests.support.web_host import NEEDS_PHP
 
 HTTPS = "--at https://club.example/vote/"
 SECRET = f"secret = true\n{elections.POLL}"
@@ -82,7 +83,6 @@ class SecretCall(elections.ElectionTest):
         self.assertEqual((fault in text, status), (True, 9), text)
 
 
-@NEEDS_PHP
 class SecretClicks(boxes.BoxElectionTest):
     poll = SECRET
 
@@ -151,6 +151,7 @@ class SecretClicks(boxes.BoxElectionTest):
             self.codes()["ada"], "".join(boxes.text_of(one.read_bytes()) for one in letters)
         )
 
+    @pytest.mark.whole
     def test_nothing_that_people_wrote_is_told_at_a_pipe(self):
         self.begun(ida=RANKS, hal="1,2,3,9")
         own = f"[{elections.ANY_MARK}-{{}}]"
@@ -182,17 +183,11 @@ class SecretClicks(boxes.BoxElectionTest):
         self.demand_without(texts["hal"], *INVITING)
         for text in texts.values():
             self.demand_without(text, "It was read as", "At the lake, then", "1,2,3")
-        self.assertEqual(self.standing(), {"cleo": RANKS, "ida": RANKS})
+        self.assert_standing(cleo=RANKS, ida=RANKS)
         self.write("lines.txt", "eve: 1, 2, 3, 4.\nfay lake\ngus 1,2,3\nhal 1,2,3,4\n")
-        commands = ["add --look lines.txt", "add lines.txt"]
-        commands += [
-            "add --force not-tied --force voted-since lines.txt",
-            "held",
-            *map("held {}".format, range(1, 5)),
-        ]
-        commands += ["held 1 --as ada", "held 4 --enter", "held 1 2 --enter", "status", "log"]
-        commands += ["status --json", *map("show {}".format, NAMES)]
-        commands += ["strike 2 --yes --because mistyped", "undo --yes"]
+        commands = "add --look lines.txt|add lines.txt|add --force not-tied --force voted-since lines.txt|held|held 1|held 2|held 3|held 4|held 1 --as ada|held 4 --enter|held 1 2 --enter|status|log|status --json"
+        commands = (*commands.split("|"), *map("show {}".format, NAMES))
+        commands += "strike 2 --yes --because mistyped", "undo --yes"
         ended = [self.election("desk", given="fay: lake\ngus 1,2,3\n")]
         ended += [self.election(words) for words in commands]
         ended.append(self.election("held", 1, "--as", "ada lake"))
@@ -201,9 +196,8 @@ class SecretClicks(boxes.BoxElectionTest):
         right = "A ballot line of this poll: `NAME 2,3,4,1`: the ranks of 1 At the lake, 2 In the town hall, 3 Sell the house and meet there, 4 Further discussion; 1 is the best"
         text = text.replace(right, "")
         self.assertIn(HIDDEN, text)
-        lines = ("9,9", "2-1-3", "1,2,3", "1, 2, 3", "4,3,2")
-        words = ("lake", "hall", "column", "ranks, the poll", "For the lake")
-        self.demand_without(text, *lines, *words)
+        told = "9,9|2-1-3|1,2,3|1, 2, 3|4,3,2|lake|hall|column|ranks, the poll|For the lake"
+        self.demand_without(text, *told.split("|"))
         # at a terminal all of it is there
         shown = Terminal(self, "held", "1").end()[0]
         for part in ("I take the lake, then the hall", "subject: The lake first"):
@@ -223,8 +217,7 @@ class SecretClicks(boxes.BoxElectionTest):
         """
         self.begun()
         [letter] = (self.folder / "letters/call").rglob("ada.eml")
-        own = r"\nSubject:[^:]+:[^:]+\[[0-9a-f]{16}-\w{10}\]\n"
-        self.assertRegex(letter.read_text(), own)
+        self.assertRegex(letter.read_text(), r"\nSubject:[^:]+:[^:]+\[[0-9a-f]{16}-\w{10}\]\n")
         self.later(700)
         fault = "ballots may lie on the page"
         self.refused("call --take-back", fault, "run debvote-election add --box")
@@ -233,5 +226,4 @@ class SecretClicks(boxes.BoxElectionTest):
         self.assertEqual(self.status()["stage"], "new")
         self.done("codes")
         self.begun()
-        said = self.add(self.letter("ada", f"ada {RANKS}"))
-        self.assertIn("1 ballot of letters went in", said)
+        self.assertIn("1 ballot of letters went in", self.add(self.letter("ada", f"ada {RANKS}")))

@@ -3,9 +3,11 @@
 import re
 import shlex
 
+import pytest
+
 from tests.support import elections
 from tests.support.election_books import CalledTest, LettersTest
-from tests.support.letters import answer, mailbox
+from tests.support.letters import answer, mailbox, rows
 from tests.support.terminal import Terminal
 
 SECRET = f"secret = true\n{elections.POLL}"
@@ -20,45 +22,47 @@ INBOX = [
     answer("eve", "eve: 4, 3, 1, 2.\n"),
 ]
 PAPER = "fay 4,2,1,3\nGus: 3, 1, 4, 2.\nhal 4,1\nnobody 3,2,4,1\nhal lakeside\n"
-# what is typed at the questions of each command; those before the colon go at a pipe, too
-COMMANDS = {
-    "add --look inbox": "",
-    "add inbox": "n\n",
-    "add --yes inbox": "",
-    "add --look paper": "",
-    "add paper": "",
-    "add again": "",
-    "held": "",
-    "held 1": "",
-    "held 3": "",
-    "held 1 --enter": "",
-    "held 1 --wait": "",
-    "held 2 --as 'ben 3,4,2,1' --yes": "",
-    "held 2": "",
-    "held 3 --set-aside": "",
-    "held 3 --wait": "",
-    "status": "",
-    "status --json": "",
-    "status --electors": "",
-    "log": "",
-    "log --json": "",
-    "log --check": "",
-    "show ben": "n\n",
-    "export out": "n\n",
-    "strike 1 --because mistyped": "n\n",
-    "strike 1 --because mistyped --yes": "",
-    "undo": "n\n",
-    "undo --yes": "",
-    "count": "",
-    "letters receipts": "",
-    "letters reminders --yes": "",
-    "close --force --because lost": "y\n",
-    "add more": "",
-    "reopen --because found --yes": "",
-    "add more --came-before-close yes --yes": "",
-    "close --force --because lost --yes": "",
-    "check": "",
-}
+# the commands, and after an arrow what is typed at their questions
+COMMANDS = rows(
+    """
+add --look inbox
+add inbox → n⏎
+add --yes inbox
+add --look paper
+add paper
+add again
+held
+held 1
+held 3
+held 1 --enter
+held 1 --wait
+held 2 --as 'ben 3,4,2,1' --yes
+held 2
+held 3 --set-aside
+held 3 --wait
+status
+status --json
+status --electors
+log
+log --json
+log --check
+show ben → n⏎
+export out → n⏎
+strike 1 --because mistyped → n⏎
+strike 1 --because mistyped --yes
+undo → n⏎
+undo --yes
+count
+letters receipts
+letters reminders --yes
+close --force --because lost → y⏎
+add more
+reopen --because found --yes
+add more --came-before-close yes --yes
+close --force --because lost --yes
+check
+"""
+)
 
 
 class Unseen(LettersTest):
@@ -80,15 +84,16 @@ class Unseen(LettersTest):
         terminal.type(keys)
         return terminal.end()[0]
 
+    @pytest.mark.whole
     def test_at_a_terminal(self):
-        for words, keys in COMMANDS.items():
+        for words, _, keys in (row.partition(" → ") for row in COMMANDS):
             shown = self.at_terminal(words, keys)
             # that letter waits, and somebody has asked for it
             if words not in ("held 3", "held 2 --as 'ben 3,4,2,1' --yes"):
                 self.demand_unseen(words, shown)
 
     def test_through_a_pipe(self):
-        for words in COMMANDS:
+        for words, *_ in (row.partition(" → ") for row in COMMANDS):
             ended = self.election(words)
             self.demand_unseen(words, ended.output + ended.faults)
 
@@ -112,8 +117,7 @@ class Asked(CalledTest):
         self.cast("ada 4,1,3,2")
         for words in ("show ada", "export out"):
             before = self.contents()
-            fault = "the vote is secret, and this "
-            self.refused(words, fault, "repeat the command with --yes")
+            self.refused(words, "the vote is secret, and this ", "repeat the command with --yes")
             self.assertEqual(self.contents(), before)
         ranks = "envelope 1, "
         self.assertRegex(self.told("show --yes ada"), f"{ranks}.*: In the town hall, then ")

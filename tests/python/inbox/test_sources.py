@@ -10,6 +10,8 @@ import time
 import unittest
 import unittest.mock
 
+import pytest
+
 from debvote_tools.inbox.mailbox import (
     MAX_LETTER,
     NotRead,
@@ -22,6 +24,7 @@ from debvote_tools.inbox.mailbox import (
 
 from tests.support.letters import (
     NAMES,
+    RANDOM_LETTERS,
     RANKS,
     letter,
     mailbox,
@@ -223,6 +226,7 @@ class Files(unittest.TestCase):
         ):
             self.assertFalse(are_letters(data), data)
 
+    @pytest.mark.whole
     def test_many_lines_take_a_time_that_grows_with_their_number(self):
         """As processor time: a time that grows with the square of the length would be minutes."""
         began = time.process_time()
@@ -296,7 +300,7 @@ class Conservation(unittest.TestCase):
     def test_the_sections_of_a_file_are_the_file(self):
         chance = random.Random(3)
         becomes = collections.Counter[str]()
-        for _ in range(800):
+        for _ in range(RANDOM_LETTERS // 20):
             data = self.changed(chance)
             sections, found = self.sections(data), letters_of_file("box", data)
             read, passed_over = read_in(found), passed_over_in(found)
@@ -306,9 +310,9 @@ class Conservation(unittest.TestCase):
             self.assertEqual(len(outcomes), len(read))
             becomes.update(one.partition(": ")[0] for one in outcomes)
         self.assertEqual(set(becomes), {"in", "waits", "copy"})
-        self.assertGreater(min(becomes["in"], becomes["waits"]), 300)
+        self.assertGreater(min(becomes["in"], becomes["waits"]), RANDOM_LETTERS // 60)
         chance = random.Random(4)
-        for _ in range(2_000):
+        for _ in range(RANDOM_LETTERS // 10):
             data = b"".join(chance.choices(self.lines, k=chance.randint(0, 12)))
             self.sections(data)
 

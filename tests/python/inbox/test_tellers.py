@@ -2,21 +2,29 @@
 
 import contextlib
 import hashlib
+import io
 import json
 import pathlib
 import re
 import resource
+import runpy
 import subprocess
-import unittest
+import sys
+from unittest import mock
 
-from debvote_tools.call.lists import list_name, read_list, text_of
+import pytest
 
-from tests.support import elections, teller_elections, tellers
+from debvote_tools.call.lists import ballot_in_lists, read_list, text_of
+from debvote_tools.election import Election
+from debvote_tools.inbox.urn import slips_in
+from debvote_tools.outbox.steps import ties_of
+
+from tests.support import elections, offices, sealing, teller_elections, tellers
 from tests.support.boxes import now
 from tests.support.elections import ELECTION
 from tests.support.program import ROOT
 from tests.support.teller_elections import RANKS
-from tests.support.web_host import NEEDS_PHP
+from tests.support.tellers import list_name
 
 SLIPS = "2,1,3,4\n 1 , 2,-,9\n-\n1,1,1,2\n2,1,3,4\n1,-,-,-\n"
 ON_PAPER = ["fay", "gus", "hal", "ida", "jan", "kim"]
@@ -132,17 +140,17 @@ class BadInput(elections.ElectionTest):
         self.assertNotIn("Write a number into each box", text)
 
     def test_the_page_of_the_tellers(self):
-        made = self.scratch / "made"
-        subprocess.run([ROOT / "docs/make-teller", made], check=True, timeout=300)
         subprocess.run([ROOT / "docs/make-teller"], check=True, timeout=300)
-        said = self.done("tellers").output
-        checksum, place = said.split()
-        self.assertEqual(pathlib.Path(place).read_bytes(), (made / "teller-en.html").read_bytes())
-        self.assertEqual(tellers.sha256((made / "teller-en.html").read_bytes()), checksum)
+        checksum, place = self.done("tellers").output.split()
+        pages = {page.name: page for page in pathlib.Path(place).parent.glob("teller-*.html")}
+        self.assertEqual(pages["teller-en.html"], pathlib.Path(place))
+        sums = {name: tellers.sha256(page.read_bytes()) for name, page in pages.items()}
+        self.assertEqual(sums["teller-en.html"], checksum)
         guide = (ROOT / "docs/SECRET-VOTES.md").read_text()
-        for page in made.iterdir():
-            # docs/make-teller --tags writes it
-            self.assertIn(f"{tellers.sha256(page.read_bytes())}  {page.name}\n", guide)
+        # docs/make-teller --tags writes them
+        self.assertEqual(
+            sums, {name: sha for sha, name in re.findall(r"(\w{64})  (teller-\S+)", guide)}
+        )
         self.write("tellers.txt", tellers.tellers_file())
         self.done(CALL)
         self.assertIn(checksum, self.read("call/index.html").decode())
@@ -156,17 +164,19 @@ class BadInput(elections.ElectionTest):
         self.assertNotIn("TELLERS", self.read("call/index.html").decode())
 
 
-@NEEDS_PHP
 class WholeVote(teller_elections.TellerElectionTest):
     def test_from_the_call_to_the_page(self):
-        self.begun_with()
+        """The meeting sees in voted.txt for whom the secretary has voted on paper, as for one who had clicked."""
+        self.begun_with(clicks=RANKS | {"fay": "1,2,3,4"})
+        del self.lines["fay"]
         self.paper(*ON_PAPER)
         texts = self.receipts()
         self.assertRegex(texts["ada"], r"Your ballot, sent .*20\d\d.*, counts as sealed\.")
-        self.assertIn("You voted on paper; clicks do not count.", texts["fay"])
+        for name in ("fay", "gus"):
+            self.assertIn("You voted on paper; clicks do not count.", texts[name])
         self.write("slips.txt", SLIPS)
         self.close_early("--paper", "slips.txt")
-        closed = " ".join(self.read("letters/closed.txt").decode().split())
+        closed = self.text("letters/closed.txt")
         voted = self.read("urn/voted.txt")
         for part in (
             "5 ballots came by a click, 5 on paper, and 1 slips were spoilt.",
@@ -185,7 +195,7 @@ class WholeVote(teller_elections.TellerElectionTest):
         self.opened()
         paper = self.read("private/paper.txt").decode().splitlines()
         self.assertEqual(self.ballots(), sorted([*self.lines.values(), *paper]))
-        self.assertIn("Electors: 12\n", self.told("count"))
+        self.tells("count", "Electors: 12\n")
         self.assertEqual(json.loads(self.told("status --json"))["voters"], 10)
         self.told("publish", "--yes")
         self.published()
@@ -238,6 +248,7 @@ class WholeVote(teller_elections.TellerElectionTest):
             [*(file.read_bytes() for file in files), *(one.encode() for one in outputs)]
         )
 
+    @pytest.mark.whole
     def test_nobody_finds_number_or_ranks_of_a_click_before_the_last_list_nor_a_name_after_it(self):
         rare = dict(zip(RANKS, ("3,1,4,2", "4,1,2,3", "2,4,1,3", "3,4,1,2", "4,2,1,3")))
         self.begun(**rare)
@@ -276,6 +287,7 @@ class WholeVote(teller_elections.TellerElectionTest):
                         row[:2],
                     )
 
+    @pytest.mark.whole
     def test_a_lost_key_comes_back_from_its_halves_and_three_tellers(self):
         """The halves are tried in the browser; here any file with the same private key makes the same list."""
         self.begun_with()
@@ -288,10 +300,26 @@ class WholeVote(teller_elections.TellerElectionTest):
         file.write_bytes(again)
         # signed anew it is the same list
         self.told("tellers", file)
-        self.assertIn("dora opens list-1.txt in the hall, or once it ", self.told("status"))
+        self.tells("status", "dora opens list-1.txt in the hall, or once it ")
 
 
-@NEEDS_PHP
+class Tie(teller_elections.TellerElectionTest):
+    def test_the_casting_vote_is_for_an_option(self):
+        """And for none of the check-off, by which members are counted."""
+        names = ("ada", "ben", "cleo", "dan", "eve", "fay")
+        self.begun_with(clicks=dict(zip(names, ["1,2,3,4", "2,1,3,4"] * 3)))
+        self.close_early()
+        self.opened()
+        self.assertIn("Tie: 1 2\n", self.election("count").output)
+        self.assertEqual(self.election("publish --yes").status, 1)
+        ties = ties_of(election := Election(str(self.folder), ROOT / "bin"), election.history())
+        self.assertEqual(ties, {"": ["At the lake", "In the town hall"]})
+        self.assertIn('value="In the town hall" required', offices.Office(self).page())
+        cast = f"--casting 'At the lake' --cast-by Ada --cast-on {now():%Y-%m-%d}"
+        self.tells(f"publish --yes {cast} result-2", "Winner: 1 At the lake by casting vote\n")
+
+
+@pytest.mark.whole
 class ThreeTellers(teller_elections.TellerElectionTest):
     tellers_count = 3
 
@@ -303,11 +331,9 @@ class ThreeTellers(teller_elections.TellerElectionTest):
         self.told("count")
 
 
-@NEEDS_PHP
 class Paper(teller_elections.TellerElectionTest):
     def test_only_who_votes_on_paper_is_typed(self):
         self.begun_with()
-        self.write("lines.txt", "fay 2,1,3,4\n")
         for line in ("fay 2,1,3,4", "fay 1,-,-", "fay lake", "fay -,-,1"):
             self.write("lines.txt", f"{line}\n")
             self.refused(
@@ -320,8 +346,7 @@ class Paper(teller_elections.TellerElectionTest):
                 "fay", "fay 2,1,3,4", subject=f"[{elections.ANY_MARK}-{elections.any_own('fay')}]"
             )
         )
-        waits = self.told("held")
-        self.assertIn("a ballot that somebody can read does not count in this vote", waits)
+        waits = self.tells("held", "a ballot that somebody can read does not count in this vote")
         letter = re.findall(r"^ *(\d+)  ", waits, re.M)[0]
         for words in (
             f"held {letter} --enter --yes",
@@ -378,50 +403,43 @@ class Paper(teller_elections.TellerElectionTest):
         self.assertFalse((self.folder / "private/codes.csv").exists())
         self.assertEqual(self.status()["voters"], 5)
 
-    def test_paper_holds_until_its_line_goes(self):
-        for how in ("strike", "undo"):
-            with self.subTest(how):
-                self.folder = self.scratch / "election"
-                if how == "undo":
-                    self.doCleanups()
-                    self.setUp()
-                self.begun_with()
-                self.paper("ada")
-                first = self.lines["ada"]
-                self.later()
-                self.click("ada", "4,1,2,3")
-                said = self.add_box()
-                self.assertNotIn("1 sealed ballot", said)
-                self.assertEqual(self.status()["stopping"], [])
-                self.assertEqual(self.status()["waiting"], 0)
-                self.assertIn("You voted on paper; clicks do not count.", self.receipts()["ada"])
-                self.write("slips.txt", "")
-                [(number,)] = self.rows(
-                    "SELECT envelope FROM envelope WHERE line = CAST('ada -,1,-' AS BLOB)"
-                )
-                letters = self.rows("SELECT max(letter) FROM letter")[0][0]
-                self.refused(
-                    f"held {letters} --enter --yes",
-                    "ada has voted on paper, and clicks do not count",
-                )
-                self.told(
-                    *(
-                        ("strike", number, "--yes", "--because", "mistaken")
-                        if how == "strike"
-                        else ("undo", "--yes")
-                    )
-                )
-                # the later click waits for nobody's look, and stops the close until it is entered
-                self.assertEqual(self.status()["waiting"], 1)
-                self.add_box()
-                self.assertIn("counts as sealed", self.receipts()["ada"])
-                self.close_early()
-                self.opened()
-                self.assertIn(self.lines["ada"], self.ballots())
-                self.assertNotIn(first, self.ballots())
+    @pytest.mark.whole
+    def test_paper_holds_until_its_line_is_struck(self):
+        self.assert_holds_until("strike {} --yes --because mistaken")
+
+    @pytest.mark.whole
+    def test_paper_holds_until_its_line_is_taken_back(self):
+        self.assert_holds_until("undo --yes")
+
+    def assert_holds_until(self, act: str):
+        self.begun_with()
+        self.paper("ada")
+        first = self.lines["ada"]
+        self.later()
+        self.click("ada", "4,1,2,3")
+        self.assertNotIn("1 sealed ballot", self.add_box())
+        state = self.status()
+        self.assertEqual((state["stopping"], state["waiting"]), ([], 0))
+        self.assertIn("You voted on paper; clicks do not count.", self.receipts()["ada"])
+        [(number,)] = self.rows(
+            "SELECT envelope FROM envelope WHERE line = CAST('ada -,1,-' AS BLOB)"
+        )
+        letters = self.rows("SELECT max(letter) FROM letter")[0][0]
+        self.refused(
+            f"held {letters} --enter --yes",
+            "ada has voted on paper, and clicks do not count",
+        )
+        self.told(act.format(number))
+        # the later click waits for nobody's look, and stops the close until it is entered
+        self.assertEqual(self.status()["waiting"], 1)
+        self.add_box()
+        self.assertIn("counts as sealed", self.receipts()["ada"])
+        self.close_early()
+        self.opened()
+        self.assertIn(self.lines["ada"], self.ballots())
+        self.assertNotIn(first, self.ballots())
 
 
-@NEEDS_PHP
 class Blocks(teller_elections.TellerElectionTest):
     def test_a_copied_block_is_passed_over(self):
         self.begun_with()
@@ -447,6 +465,7 @@ class Blocks(teller_elections.TellerElectionTest):
         self.close_early()
         self.assertEqual(len(read_list("x", self.list_of(0)).ballots), 5)
 
+    @pytest.mark.whole
     def test_the_earlier_one_comes_later(self):
         """The host holds a record back until another elector has copied it."""
         self.begun(**RANKS)
@@ -463,7 +482,7 @@ class Blocks(teller_elections.TellerElectionTest):
         self.told(f"held {letters} --enter --yes")
         fault = "fay and gus have sent the same sealed ballot, gus later"
         self.refused("close --early --yes --force --because x", fault, "strike")
-        self.assertIn(fault, self.told("status"))
+        self.tells("status", fault)
         [(number,)] = self.rows(
             "SELECT envelope FROM envelope WHERE line = CAST('gus 1,-,-' AS BLOB)"
         )
@@ -474,27 +493,31 @@ class Blocks(teller_elections.TellerElectionTest):
 
     def test_what_is_no_ballot_of_tellers_is_not_opened(self):
         self.begun_with()
-        links = self.links()
         shorter = self.block("fay", "1,2,3,4")[:-4]
         self.click("fay", shorter + "=" * 4)
-        self.click("gus", f"{shorter}")
+        self.click("gus", shorter)
         self.add_box()
-        state = self.status()
-        self.assertEqual(state["lost"], ["fay", "gus"])
+        self.assertEqual(self.status()["lost"], ["fay", "gus"])
         self.refused(
             "close --early --yes",
             "ballots came by the links of these electors that nobody can open",
         )
-        self.assertTrue(links)
+
+    def test_whose_blocks_the_first_teller_refuses(self):
+        """k+1 of 5+k electors send nonsense: there is no result, and all see whose it was."""
+        self.begun_with(clicks=RANKS | {"fay": "BA" + "A" * (4 * (3 + 4 + 54) - 2)})
+        self.close_early()
+        said = self.told("tellers", self.open(1))
+        self.assertIn("list-1.txt: 5 ballots, 1 refused", said)
+        self.assertIn("Refused: the ballot of fay. Tell them.", said)
 
 
-@NEEDS_PHP
 class Close(teller_elections.TellerElectionTest):
     def test_few_clicks(self):
         self.begun_with(clicks=dict([*RANKS.items()][:4]))
         fault = "there are 4 clicks, and of fewer than 5 each may be known"
         self.refused("close --early --yes --force --because x", fault, "return the slips unread")
-        self.assertIn(f"Before the close: {fault}", self.told("status"))
+        self.tells("status", f"Before the close: {fault}")
 
     def test_slips(self):
         self.begun_with()
@@ -533,9 +556,8 @@ class Close(teller_elections.TellerElectionTest):
     def test_few_on_paper(self):
         self.begun_with()
         self.paper("fay")
-        self.assertIn(
-            "1 elector voted on paper, and of fewer than 5 slips each may be known",
-            self.told("status"),
+        self.tells(
+            "status", "1 elector voted on paper, and of fewer than 5 slips each may be known"
         )
         self.write("slips.txt", "1,2,3,4\n")
         self.refused(
@@ -554,26 +576,22 @@ class Close(teller_elections.TellerElectionTest):
         self.assertEqual((fault in text, status), (True, 9), text)
         text, status = self.at_terminal(question, "y", *words)
         self.assertEqual(status, 0, text)
-        void = " ".join(self.read("letters/void.txt").decode().split())
+        void = self.text("letters/void.txt")
         self.assertIn(f"is void, and nobody opens it: {first}", void)
-        self.assertIn("letters about the void list are not sent", self.told("status"))
+        self.tells("status", "letters about the void list are not sent")
         self.assertIn(first, self.texts("void")["ada"])
         opened = self.open(1)
         self.told("close --early --yes")
         self.refused("letters void", "void: no list of tellers is void")
-        self.assertNotEqual(tellers.sha256(self.list_of(0)), "")
-        closed = " ".join(self.read("letters/closed.txt").decode().split())
-        if tellers.sha256(self.list_of(0)) != first:
-            self.assertIn(
-                f"The list with this checksum is void, and nobody opens it: {first}", closed
-            )
-        self.told("tellers", opened if tellers.sha256(self.list_of(0)) == first else self.open(1))
+        is_same = tellers.sha256(self.list_of(0)) == first
+        void = f"The list with this checksum is void, and nobody opens it: {first}"
+        self.assertTrue(is_same or void in self.text("letters/closed.txt"))
+        self.told("tellers", opened if is_same else self.open(1))
         anew = "the tellers have opened the ballots, and a second opening would show whose differ"
         for words in ("reopen --yes --because x", "strike 1 --yes --because x", "undo --yes"):
             self.refused(words, anew, "hold the vote anew, with new keys")
 
 
-@NEEDS_PHP
 class HandedOn(teller_elections.TellerElectionTest):
     def setUp(self):
         super().setUp()
@@ -627,33 +645,18 @@ class HandedOn(teller_elections.TellerElectionTest):
         self.assertIn("Print urn/list-2.txt, and let members look for their numbers.\n", said)
         self.assertEqual(self.ballots(), sorted(self.lines.values()))
 
-    def test_whose_blocks_the_first_teller_refuses(self):
-        """k+1 of 5+k electors send nonsense: there is no result, and all see whose it was."""
-        self.doCleanups()
-        teller_elections.TellerElectionTest.setUp(self)
-        nonsense = "BA" + "A" * (4 * (3 + 4 + 54) - 2)
-        self.begun_with(clicks=RANKS | {"fay": nonsense})
-        self.close_early()
-        said = self.told("tellers", self.open(1))
-        self.assertIn("list-1.txt: 5 ballots, 1 refused", said)
-        self.assertIn("Refused: the ballot of fay. Tell them.", said)
 
-
-@NEEDS_PHP
 class WhoCanDoWhat(teller_elections.TellerElectionTest):
     """What is done by who is not honest, and who sees it by what; the page's part is tried in the browser."""
 
     def own_file(self, name: str, keys: dict[int, int]) -> str:
         """The file that the page of an elector saves, whose own keys are these, by step."""
-        from debvote_tools.call.lists import bytes_of, layer, padded
-
         mark, line = self.of_page("mark"), self.lines[name]
-        block = padded(line, 4)
-        rows = list[str]()
-        for step, point in reversed([*enumerate(tellers.points().values(), start=1)]):
-            block = layer(step, bytes_of(point), mark, block, tellers.private_key(keys[step]))
-            rows.insert(0, f"{step} {text_of(block)} {text_of(keys[step].to_bytes(32))}")
-        self.blocks[name] = text_of(block)
+        points = [*tellers.points().values()]
+        privates = [*map(tellers.private_key, keys.values())]
+        blocks = ballot_in_lists(line, 4, mark, points, privates)
+        rows = [f"{step} {blocks[step - 1]} {text_of(keys[step].to_bytes(32))}" for step in keys]
+        self.blocks[name] = blocks[0]
         return "\n".join([f"debvote ballot 1 {mark}", *rows, line, ""])
 
     def lists_say(self, own: str, *given: bytes) -> str:
@@ -662,14 +665,15 @@ class WhoCanDoWhat(teller_elections.TellerElectionTest):
         for step, data in enumerate(given):
             (folder / list_name(step)).write_bytes(data)
         (folder / "my-ballot.txt").write_text(own)
-        ended = subprocess.run(
-            ["/usr/bin/python3", "-I", self.folder / "call/lists.py", "my-ballot.txt"],
-            cwd=folder,
-            capture_output=True,
-            text=True,
-            timeout=60,
-        )
-        return ended.stdout + ended.stderr
+        script, said = str(self.folder / "call/lists.py"), io.StringIO()
+        with contextlib.chdir(folder), contextlib.redirect_stdout(said), mock.patch.object(
+            sys, "argv", [script, "my-ballot.txt"]
+        ):
+            try:
+                runpy.run_path(script, run_name="__main__")
+            except SystemExit as end:
+                said.write(str(end.code))
+        return said.getvalue()
 
     def begun_with_file(self) -> str:
         self.begun(**RANKS)
@@ -722,25 +726,6 @@ class WhoCanDoWhat(teller_elections.TellerElectionTest):
             said,
         )
 
-    def test_the_secretary_votes_for_absentees_or_voids_a_click(self):
-        """The meeting sees both in voted.txt, and who was voided in a receipt."""
-        self.begun_with(clicks=RANKS | {"fay": "1,2,3,4"})
-        self.paper("fay", "gus", "hal", "ida", "jan")
-        texts = self.receipts()
-        self.assertIn("You voted on paper; clicks do not count.", texts["fay"])
-        self.assertIn("You voted on paper; clicks do not count.", texts["gus"])
-        self.write("slips.txt", "4,3,2,1\n" * 5)
-        self.close_early("--paper", "slips.txt")
-        self.assertIn(b"fay paper\ngus paper\n", self.read("urn/voted.txt"))
-
-    def test_another_list_0_for_tellers_is_not_what_was_entered(self):
-        self.begun_with()
-        self.close_early()
-        other = self.list_of(0).replace(b"title Where", b"title There")
-        (self.scratch / "list-1.txt").write_bytes(tellers.opened(other, 1))
-        fault = "carla was given another list-0.txt than this: the secretary and carla have to show"
-        self.refused(f"tellers {self.scratch / 'list-1.txt'}", fault)
-
     def test_the_host_sees_no_name_rank_or_number(self):
         self.begun_with()
         data = b"".join(file.read_bytes() for file in self.web.rglob("*") if file.is_file())
@@ -752,7 +737,6 @@ class WhoCanDoWhat(teller_elections.TellerElectionTest):
         self.assertEqual(len({len(record) for record in self.records()}), 1)
 
 
-@NEEDS_PHP
 class Motion(teller_elections.TellerElectionTest):
     poll = teller_elections.SECRET.replace(
         'options = ["At the lake", "In the town hall", "Sell the house and meet there"]\nratios = [1, 1, 3]',
@@ -761,33 +745,25 @@ class Motion(teller_elections.TellerElectionTest):
 
     def test_words_on_slips(self):
         self.call()
-        said = "slips.txt"
-        self.write(said, "yes\nno\nabstain\n1,2\n- , 1\nYes.\n")
-        from debvote_tools.election import Election
-        from debvote_tools.inbox.urn import slips_in
-
-        with contextlib.chdir(self.folder), unittest.mock.patch.dict(
-            "os.environ", elections.environment()
-        ):
-            read = slips_in(Election(".", None), said)
+        self.write("slips.txt", "yes\nno\nabstain\n1,2\n- , 1\nYes.\n")
+        with contextlib.chdir(self.folder), mock.patch.dict("os.environ", elections.environment()):
+            read = slips_in(Election(".", None), "slips.txt")
         self.assertEqual(read, ["1,2", "2,1", "1,1", "1,2", "-,1", "1,2"])
         self.assertIn(
             "or in place of the ranks one word: yes, no, abstain",
-            " ".join(self.read("private/slips.html").decode().split()),
+            self.text("private/slips.html"),
         )
 
 
-@NEEDS_PHP
+@pytest.mark.whole
 class Speed(teller_elections.TellerElectionTest):
     names = [f"m{n:04}" for n in range(1000)]
 
     def test_a_thousand_ballots(self):
-        self.begun(**{})
+        self.begun()
         links = self.links()
         mark = self.of_page("mark")
         records = list[bytes]()
-        from tests.support import sealing
-
         begin = now()
         for number, name in enumerate(self.names):
             place = self.place_of(name, links[name])
@@ -819,7 +795,3 @@ class Speed(teller_elections.TellerElectionTest):
         for what, time in spent.items():
             self.assertLess(time, 5, what)
         self.assertEqual(len(self.ballots()), 1000)
-
-
-if __name__ == "__main__":
-    unittest.main()

@@ -5,6 +5,8 @@ import hmac
 import itertools
 import re
 
+import pytest
+
 from tests.support import elections
 from tests.support.at_browser import NEEDS_BROWSER, Window
 from tests.support.election_books import LettersTest
@@ -32,6 +34,7 @@ LETTERS = (
 )
 
 
+@pytest.mark.whole
 class Forty(LettersTest):
     """Two have no address, and only a slip."""
 
@@ -53,9 +56,13 @@ class Forty(LettersTest):
         slips = re.findall(r"\[([0-9a-f]{16}-\w{10})\]", self.read("private/slips.html").decode())
         owns = self.book.rows("SELECT mark FROM elector_now")
         self.assertEqual({*slips}, {f"{self.mark}-{own}" for own, in owns})
-        said = self.add(*letters)
-        self.assertIn("\n18 ballots of letters went in; 13 letters wait.\n", said)
-        self.assertIn("\nNext: 13 letters wait: debvote-election held\n", said)
+        self.add(
+            *letters,
+            says=(
+                "\n18 ballots of letters went in; 13 letters wait.\n",
+                "\nNext: 13 letters wait: debvote-election held\n",
+            ),
+        )
         asked = " ".join(map(str, by_way[ENTER]))
         self.agrees(f"{asked} --enter", times=len(by_way[ENTER]))
         for number in by_way[FORCE]:
@@ -99,9 +106,11 @@ class ByThePage(LettersTest):
             window.open(self.folder / "call" / "index.html", f"#ada/{own}")
             made = window.ballot(None, self.ranks)
         self.assertEqual((made["to"], made["body"]), ("mailto:vote@club.example", self.body))
-        said = self.add(letter("ada", made["body"], subject=made["subject"]))
-        self.assertIn("1 ballot of letters went in; 0 letters wait.", said)
-        self.assertEqual(self.lines(), [self.entered])
+        self.add(
+            letter("ada", made["body"], subject=made["subject"]),
+            says="1 ballot of letters went in; 0 letters wait.",
+        )
+        self.assert_lines(self.entered)
 
 
 class ByThePageOfSeveral(QuestionsTest, ByThePage):

@@ -6,9 +6,10 @@ import pathlib
 import shutil
 import socket
 import subprocess
-import sys
 import time
 import unittest
+
+import pytest
 
 from tests.support import elections
 from tests.support.election_books import CalledTest
@@ -16,6 +17,7 @@ from tests.support.election_books import CalledTest
 SSHD = shutil.which("sshd", path="/usr/sbin:/usr/bin")
 
 
+@pytest.mark.whole
 @unittest.skipUnless(SSHD and shutil.which("ssh"), "openssh-server is not installed")
 class BySsh(CalledTest):
     def setUp(self):
@@ -23,12 +25,12 @@ class BySsh(CalledTest):
         self.room = self.scratch / "ssh"
         self.room.mkdir(mode=0o700)
         for name in ("host", "helper"):
-            words = ["ssh-keygen", "-q", "-t", "ed25519", "-N", "", "-f", str(self.room / name)]
+            words = ["ssh-keygen", "-q", "-t", "ed25519", "-N", "", "-f", self.room / name]
             subprocess.run(words, check=True, stdin=subprocess.DEVNULL)
         env = elections.environment()
         # what is in the secretary's profile otherwise
-        programs = f"env XDG_STATE_HOME={self.state} PATH={env['PATH']} {sys.executable}"
-        desk = f"{programs} {elections.ELECTION} --folder {self.folder} desk --name 'Table 2'"
+        program = f"env XDG_STATE_HOME={self.state} PATH={env['PATH']} {elections.ELECTION}"
+        desk = f"{program} --folder {self.folder} desk --name 'Table 2'"
         key = (self.room / "helper.pub").read_text()
         (self.room / "keys").write_text(f'restrict,pty,command="{desk}" {key}')
         (self.room / "keys").chmod(0o600)
@@ -45,31 +47,27 @@ class BySsh(CalledTest):
             "PasswordAuthentication": "no",
             "PermitRootLogin": "prohibit-password",
         }
-        text = "".join(f"{name} {value}\n" for name, value in settings.items())
-        (self.room / "config").write_text(text)
+        words = [SSHD, "-D", "-e", "-f", os.devnull]
+        for name, value in settings.items():
+            words += ["-o", f"{name}={value}"]
         if os.geteuid() == 0:
             pathlib.Path("/run/sshd").mkdir(exist_ok=True)
-        words = [SSHD, "-D", "-e", "-f", str(self.room / "config")]
         server = subprocess.Popen(words, stderr=subprocess.DEVNULL)
         self.addCleanup(server.wait)
         self.addCleanup(server.kill)
         end = time.monotonic() + elections.SECONDS
-        while True:
-            try:
-                socket.create_connection(("127.0.0.1", self.port)).close()
-                break
-            except OSError:
+        with socket.socket() as found:
+            while found.connect_ex(("127.0.0.1", self.port)):
                 self.assertIsNone(server.poll())
                 self.assertLess(time.monotonic(), end)
                 time.sleep(0.05)
 
     def ssh(self, *words, typed="", options=()):
         """What a helper sees who types this."""
-        where = ["-p", str(self.port), "-i", str(self.room / "helper"), "-F", "none"]
-        trust = ["-o", "StrictHostKeyChecking=no", "-o", "UserKnownHostsFile=/dev/null"]
-        who = f"{getpass.getuser()}@127.0.0.1"
+        trust = "-F none -o StrictHostKeyChecking=no -o UserKnownHostsFile=/dev/null"
+        where = f"-q -p {self.port} -i {self.room}/helper {trust} {getpass.getuser()}@127.0.0.1"
         ended = subprocess.run(
-            ["ssh", *(options or ["-tt"]), "-q", *where, *trust, who, *words],
+            ["ssh", *(options or ["-tt"]), *where.split(), *words],
             input=typed,
             capture_output=True,
             text=True,

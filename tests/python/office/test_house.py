@@ -34,5 +34,5 @@ class House(unittest.TestCase):
             if any(name in file.read_text() for name in ("AT_OFFICE", "DEBVOTE_OFFICE"))
         ]
         self.assertEqual(
-            sorted(knowing), ["cli/console.py", "office/command_line.py", "office/office.py"]
+            sorted(knowing), ["cli/console.py", "office/command_line.py", "office/runs.py"]
         )

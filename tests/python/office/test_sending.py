@@ -12,18 +12,16 @@ class Sending(SendTest):
         office = offices.Office(self)
         server = f"127.0.0.1:{self.server.port}"
         text = office.post("do/letters", kind="call", send="1", server=server, user="vote")
-        self.assertIn("The password of vote on 127.0.0.1:", offices.seen(text))
+        office.shows(text, "The password of vote on 127.0.0.1:")
         self.assertIn('type="password"', text)
         for password, words in (
             (PASSWORD, "it refuses user or password"),
             ("right", "Sent 9 of 9"),
         ):
-            text = office.yes(text, password)
-            self.assertIn(words, offices.seen(text))
+            text = office.shows(office.yes(text, password), words)
             pages = [office.page(place) for place in ("", "all", "run/1", "letters", "roll")]
             for page in (text, *pages):
-                self.assertNotIn("battery", page)
-                self.assertNotIn("right\n", page)
+                self.assertNotRegex(page, "battery|right\n")
             text = office.post("do/letters", kind="call", send="1", server=server, user="vote")
         self.assertEqual(len(self.server.taken), 9)
         self.assertEqual(self.server.logins[-1], (b"vote", b"right"))

@@ -1,6 +1,7 @@
 """Who may ask the office for anything, and how it begins and ends."""
 
 import http
+import os
 import pathlib
 import re
 import signal
@@ -10,6 +11,7 @@ import threading
 import time
 from unittest import mock
 
+import pytest
 from debvote_tools.office import office as office_module
 from debvote_tools.office import server
 
@@ -17,40 +19,38 @@ from tests.support import boxes, elections, offices
 from tests.support.elections import ElectionTest
 
 FORM = {"Content-Type": "application/x-www-form-urlencoded"}
+# of each answer
+HEADS = {
+    "Referrer-Policy": "same-origin",
+    "Cache-Control": "no-store",
+    "Content-Security-Policy": "default-src 'none'; style-src 'self'; script-src 'self'; form-action 'self'; frame-ancestors 'none'; base-uri 'none'",
+}
 
 
 class WhoAsks(ElectionTest):
     def test_other_sites_and_other_users(self):
         office = offices.Office(self)
-        own = {"Host": office.host, "Origin": f"http://{office.host}"}
+        own = {"Origin": f"http://{office.host}"}
         status, heads, _ = office.ask("GET", office.base)
-        self.assertEqual(status, http.HTTPStatus.OK)
-        self.assertEqual(heads["Referrer-Policy"], "same-origin")
-        self.assertEqual(heads["Cache-Control"], "no-store")
-        self.assertEqual(
-            heads["Content-Security-Policy"],
-            "default-src 'none'; style-src 'self'; script-src 'self'; form-action 'self'; frame-ancestors 'none'; base-uri 'none'",
-        )
+        self.assertEqual((status, {**heads, **HEADS}), (http.HTTPStatus.OK, heads))
         port = office.host.partition(":")[2]
         for host in ("localhost:" + port, "evil.example", "127.0.0.1", f"127.0.0.1:{port}0"):
             self.assertEqual(office.ask("GET", office.base, Host=host)[0], 421, host)
         for path in ("/", "/x", "/x/roll", office.base[:-2], office.base[:-2] + "x/", "//"):
             self.assertEqual(office.ask("GET", path)[0], 404, path)
         before = self.contents()
+        origins = ("null", "http://evil.example", f"http://localhost:{port}")
+        sites = ("cross-site", "same-site", "none")
         for heads in (
-            {**own, "Origin": "null"},
-            {**own, "Origin": "http://evil.example"},
-            {**own, "Origin": f"http://localhost:{port}"},
-            {"Host": office.host},
-            {**own, "Sec-Fetch-Site": "cross-site"},
-            {**own, "Sec-Fetch-Site": "same-site"},
-            {**own, "Sec-Fetch-Site": "none"},
+            {},
+            *({"Origin": origin} for origin in origins),
+            *({**own, "Sec-Fetch-Site": site} for site in sites),
         ):
             form = "letters=1&numbers=1&early=1"
             found = office.ask("POST", office.base + "do/close", form, **FORM, **heads)
             self.assertEqual(found[0], 403, heads)
         self.assertEqual(self.contents(), before)
-        self.assertEqual(office.process.poll(), None)
+        office.page()
 
     def test_a_secret_of_a_wall_or_of_a_result_opens_nothing_else(self):
         office = offices.Office(self)
@@ -64,9 +64,9 @@ class WhoAsks(ElectionTest):
         self.assertNotIn(office.base, body.decode())
         for place in ("roll", "letters", "do/close", "draft", "print/private/slips.html"):
             self.assertEqual(office.ask("GET", big + place)[0], 404, place)
-        own = {"Origin": f"http://{office.host}"}
-        self.assertEqual(office.ask("POST", big + "end", "", **FORM, **own)[0], 404)
-        self.assertEqual(office.ask("POST", big + "do/close", "early=1", **FORM, **own)[0], 404)
+        own = {"Origin": f"http://{office.host}", **FORM}
+        for place in ("end", "do/close"):
+            self.assertEqual(office.ask("POST", big + place, "early=1", **own)[0], 404, place)
 
     def test_no_page_leaves_the_folder(self):
         (self.folder / "private").mkdir(exist_ok=True)
@@ -94,41 +94,37 @@ class WhoAsks(ElectionTest):
 
     def test_a_request_is_limited(self):
         office = offices.Office(self)
-        own = {"Origin": f"http://{office.host}", **FORM}
-        long = {**own, "Content-Length": str(16 * 1024 * 1024 + 1)}
-        self.assertEqual(office.ask("POST", office.base + "letters", "", **long)[0], 413)
-        odd = {**own, "Content-Length": "x"}
-        self.assertEqual(office.ask("POST", office.base + "letters", "", **odd)[0], 411)
-        bad = {"Origin": own["Origin"], "Content-Type": "multipart/form-data"}
-        self.assertIn(
-            office.ask("POST", office.base + "letters", b"\xff\xfe", **bad)[0], (303, 400)
-        )
-        self.assertEqual(office.ask("HEAD", office.base)[0], 501)
-        self.assertEqual(office.ask("PUT", office.base, "x")[0], 501)
+        for method, body, heads, *wanted in (
+            ("POST", "", {**FORM, "Content-Length": str(16 * 1024 * 1024 + 1)}, 413),
+            ("POST", "", {**FORM, "Content-Length": "x"}, 411),
+            ("POST", b"\xff\xfe", {"Content-Type": "multipart/form-data"}, 303, 400),
+            ("HEAD", None, {}, 501),
+            ("PUT", "x", {}, 501),
+        ):
+            heads["Origin"] = f"http://{office.host}"
+            found = office.ask(method, f"{office.base}letters", body, **heads)
+            self.assertIn(found[0], wanted, method)
 
 
 class Values(ElectionTest):
     def test_what_looks_like_an_option_is_a_value(self):
         office = offices.Office(self)
         text = office.post("do/show", name="--help")
-        self.assertIn("no elector on the roll is `--help`", offices.seen(text))
+        office.shows(text, "no elector on the roll is `--help`")
         text = office.post("do/strike", number="1", because="--moved\r\n--yes")
-        self.assertNotIn("unrecognized", text)
-        self.assertIn("strike --because=--moved", offices.seen(text))
+        self.assertNotIn("unrecognized", office.shows(text, "strike --because=--moved"))
 
     def test_what_a_command_asks_has_no_answer_in_a_form(self):
         office = offices.Office(self)
-        self.assertNotIn('name="yes"', office.page("do/close"))
-        self.assertNotIn('name="moved"', office.page("do/close"))
-        text = office.post("do/close", yes="1", moved="1")
-        self.assertIn("Is that all?", offices.seen(text))
-        self.assertIn("wait", offices.seen(office.page()))
+        self.assertNotRegex(office.page("do/close"), 'name="(yes|moved)"')
+        text = office.shows(office.post("do/close", yes="1", moved="1"), "Is that all?")
+        office.shows(office.page(), "wait")
         text = office.yes(text, "n")
         # a no is no fault
         self.assertIn("<h1>It was not done</h1>", text)
         self.assertNotIn("said fault", text)
         self.assertNotIn(("close",), self.rows("SELECT name FROM act"))
-        office.yes(office.post("do/close"))
+        office.agree("do/close")
         self.assertIn(("close",), self.rows("SELECT name FROM act"))
 
     def test_an_answer_is_taken_once_and_by_its_own_question_alone(self):
@@ -150,51 +146,49 @@ class Values(ElectionTest):
 
 class BeginAndEnd(ElectionTest):
     def test_there_is_one_office_for_a_book(self):
-        office = offices.Office(self)
+        office = offices.Program(self)
         words = [sys.executable, str(offices.OFFICE), str(self.folder)]
-        env = elections.environment() | {
-            "XDG_STATE_HOME": str(self.state),
-            "BROWSER": "true",
-            "DISPLAY": "",
-        }
-        second = subprocess.run(words, capture_output=True, text=True, env=env, timeout=60)
-        self.assertEqual(second.returncode, 0, second)
-        [page] = re.findall(r"its page is (.*)\.\n", second.stdout)
-        self.assertIn(office.address, pathlib.Path(page).read_text())
-        self.assertEqual(pathlib.Path(page).stat().st_mode & 0o777, 0o600)
-        self.assertEqual(pathlib.Path(page).parent.stat().st_mode & 0o777, 0o700)
+        own = {"XDG_STATE_HOME": str(self.state), "BROWSER": "true", "DISPLAY": ""}
+        env = elections.environment() | own
+        said = subprocess.run(
+            words, stdout=subprocess.PIPE, text=True, env=env, timeout=60, check=True
+        ).stdout
+        [page] = map(pathlib.Path, re.findall(r"its page is (.*)\.\n", said))
+        self.assertIn(office.address, page.read_text())
+        modes = [file.stat().st_mode & 0o777 for file in (page, page.parent)]
+        self.assertEqual(modes, [0o600, 0o700])
         office.end()
-        self.assertFalse(pathlib.Path(page).exists())
+        self.assertFalse(page.exists())
         offices.Office(self).page()
 
-    def test_its_end_interrupts_what_runs(self):
-        office = offices.Office(self)
+    def begun(self):
+        """An office in which two commands ask, and these."""
+        office = offices.Program(self)
         office.post("do/close")
         office.type("ada", "1,2,3,4")
         children = offices.children(office)
         self.assertEqual(len(children), 2)
-        self.assertIn("has ended", office.post("end"))
-        office.process.wait(timeout=30)
-        self.assertEqual(office.process.returncode, 0)
-        self.assert_gone(children)
-        self.assertEqual(self.rows("SELECT * FROM envelope"), [])
-
-    def test_a_kill_leaves_no_command_and_a_whole_book(self):
-        office = offices.Office(self)
-        office.post("do/close")
-        office.type("ada", "1,2,3,4")
-        children = offices.children(office)
-        office.process.send_signal(signal.SIGKILL)
-        office.process.wait(timeout=30)
-        self.assert_gone(children)
-        self.assertEqual(self.rows("SELECT * FROM envelope"), [])
-        self.done("log", "--check")
+        return office, children
 
     def assert_gone(self, children):
         end = time.monotonic() + elections.SECONDS
         while any(map(offices.is_there, children)):
             self.assertLess(time.monotonic(), end)
             time.sleep(0.05)
+        self.assertEqual(self.rows("SELECT * FROM envelope"), [])
+
+    def test_its_end_interrupts_what_runs(self):
+        office, children = self.begun()
+        self.assertIn("has ended", office.post("end"))
+        self.assertEqual(office.wait(), 0)
+        self.assert_gone(children)
+
+    def test_a_kill_leaves_no_command_and_a_whole_book(self):
+        office, children = self.begun()
+        os.kill(office.pid, signal.SIGKILL)
+        office.wait()
+        self.assert_gone(children)
+        self.done("log", "--check")
 
     def test_it_ends_if_nobody_asks_for_long(self):
         of_hours = office_module.Office(offices.OFFICE.parent, "en")
@@ -211,19 +205,19 @@ class BeginAndEnd(ElectionTest):
         self.assertEqual(office.ask("GET", office.base + "roll")[0], 404)
         self.assertIn("it is no whole path", office.post("new", folder="x"))
         made = self.scratch / "new one"
-        text = office.post("new", folder=str(made), language="de", questions="3")
-        self.assertIn("Made the folder", offices.seen(text))
+        text = office.post("new", folder=made, language="de", questions="3")
+        office.shows(text, "Made the folder")
         self.assertTrue((made / "polls" / "C.toml").is_file())
-        text = office.post("folder", folder=str(made))
-        self.assertIn("In Vorbereitung", text)
+        office.shows(office.post("folder", folder=made), "In Vorbereitung")
         other = offices.Office(self, folder="")
         self.assertIn(str(made), other.page())
         # a link leads to the page that has it
-        self.assertIn(f'href="{office.address}"', other.post("folder", folder=str(made)))
-        self.assertIn("0 of 9", offices.seen(other.post("folder", folder=str(self.folder))))
+        self.assertIn(f'href="{office.address}"', other.post("folder", folder=made))
+        other.shows(other.post("folder", folder=self.folder), "0 of 9")
 
+    @pytest.mark.whole
     def test_pages_and_commands_leave_nothing_open(self):
-        office = offices.Office(self)
+        office = offices.Program(self)
         for _ in range(3):
             office.page("letters")
             office.post("do/show", name="ada")
@@ -238,7 +232,7 @@ class BeginAndEnd(ElectionTest):
             self.assertLess(time.monotonic(), end)
             time.sleep(0.05)
         self.assertEqual(offices.children(office), [])
-        status = pathlib.Path(f"/proc/{office.process.pid}/status").read_text()
+        status = pathlib.Path(f"/proc/{office.pid}/status").read_text()
         [memory] = re.findall(r"VmRSS:\s+(\d+) kB", status)
         self.assertLess(int(memory), 80_000)
 
@@ -246,48 +240,43 @@ class BeginAndEnd(ElectionTest):
 class OwnPrograms(ElectionTest):
     call_words = ("--to", "vote@club.example", "--at", "https://club.example/vote/")
 
-    def write_programs(self, folder=None):
+    def write_programs(self):
         said = self.scratch / "said"
         words = ["cp", "-r", "{folder}/", str(said)]
-        fetch = [sys.executable, "-c", f"open({str(self.scratch / 'mail.mbox')!r}, 'w').close()"]
-        text = f"upload = {words}\nfetch = {fetch}\nmailbox = {str(self.scratch / 'mail.mbox')!r}\n"
-        ((folder or self.folder) / "office.toml").write_text(text)
+        mailbox = str(self.scratch / "mail.mbox")
+        text = f"upload = {words}\nfetch = {['touch', mailbox]}\nmailbox = {mailbox!r}\n"
+        self.write("office.toml", text)
         return said
 
     def test_nothing_runs_before_somebody_agrees(self):
         said = self.write_programs()
         office = offices.Office(self)
-        text = office.page()
-        self.assertIn("nobody has agreed", text)
-        self.assertIn("cp -r {folder}/", offices.seen(text))
+        text = office.shows(office.page(), "nobody has agreed", "cp -r {folder}/")
         self.assertNotIn(f'{office.base}upload"', text)
         for place, fields in (("upload", {"kind": "call"}), ("fetch", {})):
             self.assertIn("nobody has agreed", office.post(place, **fields))
         self.assertFalse(said.exists())
         office.post("agree", digest="0" * 64)
         self.assertIn("nobody has agreed", office.post("upload", kind="call"))
-        [digest] = re.findall(r'name="digest" value="(\w+)"', text)
-        text = office.post("agree", digest=digest)
-        self.assertNotIn("nobody has agreed", text)
+        self.assertNotIn("nobody has agreed", office.trust())
         text = office.post("upload", kind="call")
         self.assertTrue((said / "call.txt").is_file(), text)
-        text = office.post("fetch")
-        self.assertNotIn("nobody has agreed", text)
+        self.assertNotIn("nobody has agreed", office.post("fetch"))
         # a changed file, and one at another place, ask anew
-        (self.folder / "office.toml").write_text('upload = ["false"]\n')
+        self.write("office.toml", 'upload = ["false"]\n')
         self.assertIn("nobody has agreed", office.page())
         self.assertIn("nobody has agreed", office.post("upload", kind="call"))
         self.write_programs()
         self.assertNotIn("nobody has agreed", office.page())
         office.end()
         self.folder.rename(self.scratch / "elsewhere")
-        copy = offices.Office(self, folder=str(self.scratch / "elsewhere"))
-        self.assertIn("nobody has agreed", copy.page())
+        self.folder = self.scratch / "elsewhere"
+        self.assertIn("nobody has agreed", offices.Office(self).page())
 
     def test_a_file_that_is_no_list_of_words_is_a_fault(self):
         office = offices.Office(self)
         for text in ('upload = "rsync"', "upload = [1]", 'fetch = ["x"]', "x"):
-            (self.folder / "office.toml").write_text(text)
+            self.write("office.toml", text)
             status, _, body = office.ask("GET", office.base)
             self.assertEqual(status, 409, text)
             self.assertIn("office.toml", body.decode())
@@ -297,20 +286,17 @@ class WithBox(boxes.BoxElectionTest):
     def test_the_web_host_is_asked_before_and_after_an_upload(self):
         self.begun(ada="1,2,3,4")
         words = ["cp", "-r", "{folder}/.", str(self.web)]
-        (self.folder / "office.toml").write_text(f"upload = {words}\n")
+        self.write("office.toml", f"upload = {words}\n")
         office = offices.Office(self)
-        [digest] = re.findall(r'name="digest" value="(\w+)"', office.page())
-        office.post("agree", digest=digest)
+        office.trust()
         before = self.askings()
         # what lies there is fetched first; it is asked about, and a no keeps nothing back
         text = office.post("upload", kind="call")
-        self.assertIn("Enter 1 ballot?", offices.seen(text))
-        text = office.yes(text, "n")
+        office.yes(office.shows(text, "Enter 1 ballot?"), "n")
         self.assertEqual(self.askings(), before + 2)
         # a program that fails is the last of its row
-        (self.folder / "office.toml").write_text('upload = ["false"]\n')
-        [digest] = re.findall(r'name="digest" value="(\w+)"', office.page())
-        office.post("agree", digest=digest)
+        self.write("office.toml", 'upload = ["false"]\n')
+        office.trust()
         text = office.post("upload", kind="call")
         text = office.yes(text, "n") if 'name="asked"' in text else text
         self.assertIn("<h1>Look at this</h1>", text)

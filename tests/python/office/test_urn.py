@@ -4,6 +4,7 @@ import json
 import pathlib
 import re
 
+import pytest
 from debvote_tools.call.tellers import ON_PAPER
 
 from tests.python.office.test_in_browser import Page
@@ -30,6 +31,7 @@ class Clicks(Page):
             self.arrived()
 
 
+@pytest.mark.whole
 @NEEDS_PHP
 @NEEDS_BROWSER
 class WholeVote(teller_elections.TellerElectionTest):
@@ -116,12 +118,11 @@ class OnPaperAndOnTheWeb(teller_elections.TellerElectionTest):
         self.add(self.letter("fay", "fay 2,1,3,4", subject=line))
         office = offices.Office(self)
         self.assertNotIn('class="rank"', office.page("letters/6"))
-        office.yes(office.post("letters/6", name="fay", ranks=ON_PAPER, act="as"))
-        office.yes(office.post("do/close", early="1", paper="-"))
+        office.agree("letters/6", name="fay", ranks=ON_PAPER, act="as")
+        office.agree("do/close", early="1", paper="-")
         words = json.dumps(["cp", "-r", "{folder}/.", str(self.web)])
         self.write("office.toml", f"upload = {words}\n")
-        [digest] = re.findall(r'name="digest" value="(.*?)"', office.page())
-        self.assertIn('value="urn"', office.post("agree", digest=digest))
+        self.assertIn('value="urn"', office.trust())
         self.assertNotIn('value="urn"', office.post("upload", kind="urn"))
         self.assertEqual((self.web / "list-0.txt").read_bytes(), self.list_of(0))
         # everybody reads it

@@ -82,6 +82,7 @@ def draft(at: Secretary, polls: Mapping[str, Poll], members: str, *, is_secret: 
     at.click("Save it, and read the members", "Overview", "Check the questions")
 
 
+@pytest.mark.whole
 @NEEDS_BROWSER
 class Motion(ElectionTest):
     def begin(self):

@@ -13,6 +13,8 @@ import stat
 import sys
 from unittest import mock
 
+import pytest
+
 from debvote_tools.files import TEMPORARY, write_whole
 from debvote_tools.outbox import due
 from debvote_tools.outbox.letter_folder import in_place
@@ -42,7 +44,7 @@ OTHER_AT = "https://x.example/r/"
 
 class Call(OutTest):
     def test_it_has_title_end_form_the_own_line_and_the_mark(self):
-        self.assertIn("Wrote 9 letters: letters/call/", self.done("letters", "call").output)
+        self.assertIn("Wrote 9 letters: letters/call/", self.done("letters call").output)
         found = self.written("call")
         owns = dict(self.book.rows("SELECT name, mark FROM elector_now WHERE mark <> ''"))
         self.assertEqual((sorted(found), len({*owns.values()})), (elections.NAMES, 9))
@@ -80,9 +82,9 @@ class Call(OutTest):
         self.assertIn("Open the link in your letter, or answer that letter: then the subject", text)
         self.assertNotIn("nswer this letter", text)
         # how many are new
-        self.assertIn("Wrote 9 letters, none of them new: ", self.done("letters", "call").output)
+        self.assertIn("Wrote 9 letters, none of them new: ", self.done("letters call").output)
         self.change_roll("ada@club", "ada@new")
-        self.assertIn("Wrote 9 letters, 1 of them new: ", self.done("letters", "call").output)
+        self.assertIn("Wrote 9 letters, 1 of them new: ", self.done("letters call").output)
 
     def test_again_it_makes_the_same_files_and_no_act_and_an_answer_goes_in(self):
         found = self.written("call")
@@ -101,7 +103,7 @@ class Call(OutTest):
             text = f"{name} {RANKS}\n\nOn Mon, 23 Nov 2026 at 09:00, Vote wrote:\n{quoted}\n"
             self.add(letter(name, text, subject=f"Re: {found['ada']['Subject']}", time=EARLIER))
         self.assertEqual(self.exported()[0], f"ada {RANKS}\n")
-        self.assertIn("its subject lacks the own mark of ben", self.told("held"))
+        self.tells("held", "its subject lacks the own mark of ben")
 
     def test_after_an_extension_those_who_have_the_call_get_its_letter(self):
         self.written("call")
@@ -138,7 +140,7 @@ class Call(OutTest):
 
     def test_a_call_that_was_taken_back_is_none(self):
         self.written("call")
-        self.done("call", "--take-back")
+        self.done("call --take-back")
         self.done("call", *self.call_words)
         self.extend("2026-12-06 12:00")
         self.assertRegex(self.texts("call")["ada"], "^(?!.*You have more time).*After the vote all")
@@ -151,7 +153,7 @@ class Refused(OutTest):
         sender = ("--from", "vote@other.example")
         self.assertEqual(self.election("letters", "receipts", *sender).status, 9)
         self.done("call")
-        self.assert_fault(self.election("letters", "call"), 2, "--from: the call names no address")
+        self.refused("letters call", "--from: the call names no address", status=2)
         found = self.written("call", *sender)
         text = one_line(found["ada"])
         begin = f"Dear Ada, {TITLE} You can vote until the time that the secretary announces. {LINE}ada _,_,_,_ "
@@ -169,15 +171,15 @@ class Refused(OutTest):
         message = self.written("call", *sender)["ada"]
         self.assertRegex(message["Subject"], rf"^When the vote ends: {TITLE} {MARKS}$")
         self.assertIn("You can now vote until the time below.", one_line(message))
-        self.done("close", "--early")
-        self.done("publish", "--force", "--because", "nobody has voted")
+        self.done("close --early")
+        self.done("publish --force --because 'nobody has voted'")
         said = "The end of the vote was announced: one could vote until Friday, 4 .* The time was extended: one could vote until Sunday, 6 "
         self.assertRegex(self.text_in("letters/result.txt"), said)
 
     def test_addresses_of_before_the_call_and_that_of_the_result(self):
         # of several addresses the first that each server takes
         self.change_roll("ada@club", "ädä@club.example home@ada")
-        self.done("call", "--to", "vote@club.example")
+        self.done("call --to vote@club.example")
         self.assertEqual(self.written("call")["ada"]["To"], "home@ada.example")
         # the one that she had before the call gets no receipt
         self.add_lines(f"ada {RANKS}")
@@ -227,7 +229,7 @@ class OwnWords(OutTest):
             self.assertEqual((message["To"], message["Reply-To"]), ("ada@club.example", None))
         # no line of ours reads as a ballot, nor looks like an answer
         self.add(letter("ada", f"Thank you.\n\n{called['ada'].get_content()}", number=2))
-        self.assertIn("\n        no ballot found\n", self.told("held"))
+        self.tells("held", "\n        no ballot found\n")
         for name, message in called.items():
             quoted = "".join(f"> {line}\n" for line in message.get_content().splitlines())
             head = "On Monday, 23 November 2026 at 08:00 the secretary <vote@club.example> wrote:\n"
@@ -248,7 +250,7 @@ class Paper(OutTest):
     members = 'who,mail\n"Ada <script>alert(1)</script> & Söhne",\nBen,ben@club.example\nEve,\n'
 
     def test_who_has_no_address_gets_a_page(self):
-        said = self.done("letters", "call").output
+        said = self.done("letters call").output
         name = re.search(
             r"Without an address: (\S+), eve\. Print (letters/call/\d+/to-print\.html)\.\nNote: (.*)\n",
             said,
@@ -282,31 +284,31 @@ class Paper(OutTest):
             self.assertNotEqual(*pictures)
         self.assertEqual([state for _, state in self.rows("call")], ["written"] * 3)
         # who asks for it once more gets the same
-        self.assertIn("Wrote 1 letter, none of them new: ", self.done("letters", "call").output)
+        self.assertIn("Wrote 1 letter, none of them new: ", self.done("letters call").output)
         self.assertEqual(self.read(name[2]).decode(), page)
         with mock.patch.dict(sys.modules, {"segno": None}):
-            self.done("letters", "call")
+            self.done("letters call")
         self.assertEqual(self.read(name[2]).decode(), re.sub("(?s)<svg.*?</svg>", "", page))
         # with letter.txt it says where
         self.assertIn("give it to whoever sent you this letter", self.text_in(name[2]))
         self.write("letter.txt", "Paper goes into the box.\n")
         self.done("call")
-        self.assertNotIn("Note", self.done("letters", "call").output)
+        self.assertNotIn("Note", self.done("letters call").output)
         said = "The words at the head of this letter say where it goes."
         self.assertIn(said, self.text_in(name[2]))
         # with an address since, a letter that answers none is no answer to the one on paper
         self.write("members.csv", self.members.replace("Eve,", "Eve,eve@club.example"))
-        self.told("roll", "--yes")
+        self.told("roll --yes")
         subject = f"Re: {self.written('call')['eve']['Subject']}"
         self.add(letter("eve", f"> Vote now\n\neve {RANKS}\n", subject=subject, time=EARLIER))
         self.assertEqual((self.numbers()["waiting"], self.stands("eve")), (1, ""))
 
     def test_a_printed_letter_says_who_sends_it_and_where_to_answer(self):
         """Where the secretary's own words do not begin it."""
-        self.done("call", "--take-back")
+        self.done("call --take-back")
         members = "name,who,mail\na,A,\nben,Ben,ben@club.example\neve,Eve,\ngus,,\n"
         self.write("members.csv", members)
-        self.told("roll", "--yes")
+        self.told("roll --yes")
         self.done("call", "--to", "T\u00fcV & S\u00f6hne <vote@club.example>", *self.call_words[2:])
         self.add_lines("eve 1,2", f"ben {RANKS}")
         pages = {}
@@ -315,8 +317,8 @@ class Paper(OutTest):
                 self.done("letters", kind, "--from", "eve@club.example")
                 pages[kind] = self.files(kind)[-1].read_text()
             if kind == "receipts":
-                self.done("close", "--early")
-                self.done("publish", "--force", "--because", "few")
+                self.done("close --early")
+                self.done("publish --force --because few")
         begin = "<h2><bdi>Eve</bdi></h2>\n<p>Who sends this letter, and where to answer: T\u00fcV &amp; S\u00f6hne, vote@club.example</p>\n"
         for kind, page in pages.items():
             self.assertEqual(begin in page, kind not in ("call", "reminders"), kind)
@@ -360,7 +362,7 @@ class Names(OutTest):
             self.assertRegex(
                 one_line(message), r"\bMonday, 23 November 2026, 11:00(:\d\d)? \(UTC\+01:00\)"
             )
-        shown = self.told("show", "ada")
+        shown = self.told("show ada")
         both = [*wanted][1:]
         for address in both:
             self.assertIn(
@@ -391,7 +393,7 @@ class ReceiptsAndReminders(OutTest):
             f"gus {RANKS}",
             "gus 1,2",
         )
-        self.done("strike", 5, "--because", "it was a mistake")
+        self.done("strike 5 --because 'it was a mistake'")
         self.add_lines(f"eve {RANKS}")
         self.done("undo")
         texts = self.texts("receipts")
@@ -431,10 +433,10 @@ class ReceiptsAndReminders(OutTest):
         self.assertEqual(self.texts("receipts"), {})
         # undo names those whose receipts are no longer true
         self.add_lines(f"hal {OTHER_RANKS}")
-        self.assertNotIn("These electors have receipts", self.told("undo", "--yes"))
-        self.assertIn(
+        self.assertNotIn("These electors have receipts", self.told("undo --yes"))
+        self.tells(
+            "undo --yes",
             "\nThese electors have receipts that are no longer true: ada, ben, cleo, fay, gus\n",
-            self.told("undo", "--yes"),
         )
 
     def test_a_folder_that_is_removed_is_made_again(self):
@@ -447,20 +449,20 @@ class ReceiptsAndReminders(OutTest):
             return {file: file.read_bytes() for file in place.rglob("*.eml")}
 
         self.add_lines(f"ada {RANKS}", f"ben {RANKS}")
-        self.done("letters", "receipts")
+        self.done("letters receipts")
         before, rows = there(), self.rows("receipts")
         [ada, ben] = sorted(before)
         shutil.rmtree(place)
         said = f"Wrote 2 earlier letters, since the folder was not there: letters/receipts/{ada.parent.name}\n"
-        self.assertIn(said, self.told("letters", "receipts"))
+        self.tells("letters receipts", said)
         self.assertEqual((there(), self.rows("receipts")), (before, rows))
         # a file that was taken out may have been sent
         ada.unlink()
-        self.assertIn("There is no letter to send.\n", self.told("letters", "receipts"))
+        self.tells("letters receipts", "There is no letter to send.\n")
         self.assertFalse(ada.exists())
-        self.done("strike", 2, "--because", "not his")
+        self.done("strike 2 --because 'not his'")
         shutil.rmtree(place)
-        self.done("letters", "receipts")
+        self.done("letters receipts")
         self.assertIn("the secretary has struck it", one_line(parsed(there()[ben])))
         self.assertEqual(there()[ada], before[ada])
 
@@ -469,16 +471,16 @@ class ReceiptsAndReminders(OutTest):
         the close one that is late.
         """
         self.add_lines(*(f"{name} {RANKS}" for name in ("ada", "ben", "cleo", "dan", "eve")))
-        self.done("letters", "receipts")
+        self.done("letters receipts")
         self.add(letter("ada", "Thank you, all is right.\n"))
         self.add_lines("ben 1,2")
         self.add_lines(f"cleo {OTHER_RANKS}")
-        self.done("undo", "--yes")
-        self.done("strike", 5, "--because", "not hers")
+        self.done("undo --yes")
+        self.done("strike 5 --because 'not hers'")
         found = self.texts("receipts")
-        self.done("held", 1, "--set-aside")
+        self.done("held 1 --set-aside")
         self.add_lines(f"hal {RANKS}")
-        self.done("close", "--early")
+        self.done("close --early")
         self.add_lines(f"dan {OTHER_RANKS}", f"fay {RANKS}", "gus 1,2")
         late = self.texts("receipts")
         names = sorted(found), sorted(late)
@@ -500,7 +502,7 @@ class ReceiptsAndReminders(OutTest):
         for text in late.values():
             self.assertNotRegex(text, r"_,_|unless you|You can send")
         # what is entered again is told alone
-        self.done("reopen", "--because", "it was in time")
+        self.done("reopen --because 'it was in time'")
         self.add_lines(f"fay {RANKS}", words=("--came-before-close", "yes"))
         again = self.texts("receipts")
         self.assertEqual((list(again), again["fay"].count("It was read as")), (["fay"], 1))
@@ -546,11 +548,11 @@ class ReceiptsAndReminders(OutTest):
             letter("cleo", "Thank you.\n"),
         )
         said = "No receipt is about these letters that wait, since no elector alone has the sender's address: 1, 2\n"
-        output = self.told("letters", "receipts")
+        output = self.told("letters receipts")
         self.assertTrue(output.startswith(said), output)
         self.assertEqual([file.stem for file in self.files("receipts")], ["cleo", "eve"])
         waits = "{0} letters wait until you have looked at them: debvote-election held\nThere is no letter to send.\nNext: {0} letters wait: debvote-election held\n"
-        self.assertEqual(self.told("letters", "receipts"), f"{said}{waits.format(5)}")
+        self.assertEqual(self.told("letters receipts"), f"{said}{waits.format(5)}")
         held = self.told("held").replace("\n        ", "\n")
         self.assertIn("no ballot found\nwritten: Who are you?\n", held)
         self.assertIn(
@@ -558,8 +560,8 @@ class ReceiptsAndReminders(OutTest):
         )
         shown = ["letter 1, from " in self.told("show", name) for name in ("ada", "ben", "cleo")]
         self.assertEqual(shown, [True, True, False])
-        self.told("held", 1, 2, "--set-aside")
-        self.assertEqual(self.told("letters", "receipts"), waits.format(3))
+        self.told("held 1 2 --set-aside")
+        self.assertEqual(self.told("letters receipts"), waits.format(3))
 
     def test_letters(self):
         self.add(
@@ -616,7 +618,7 @@ class ReceiptsAndReminders(OutTest):
             letter("dan", "hello\n"),
             letter("eve", f"eve {RANKS}\n", sender="x@x.example"),
         )
-        self.done("held", 1, 2, "--set-aside")
+        self.done("held 1 2 --set-aside")
         twice = letter("ben", f"ben {RANKS}\n")
         self.add(
             letter("ada", f"ada {RANKS}\n", number=1, time=TEN.replace("10:00", "08:00")),
@@ -635,9 +637,7 @@ class ReceiptsAndReminders(OutTest):
             ),
         )
         why = "the name of its sender is not encoded"
-        self.assertIn(
-            f"\n        {why}, so programs may read it in different ways\n", self.told("held")
-        )
+        self.tells("held", f"\n        {why}, so programs may read it in different ways\n")
         messages = self.written("receipts")
         texts = {name: one_line(message) for name, message in messages.items()}
         self.assertEqual(
@@ -667,9 +667,9 @@ class ReceiptsAndReminders(OutTest):
         that was set aside is not told again.
         """
         self.add_lines(f"ada {RANKS}", "fay 1,2", f"gus {RANKS}")
-        self.done("strike", 3, "--because", "not his")
+        self.done("strike 3 --because 'not his'")
         self.add(letter("hal", "hello\n"))
-        self.done("held", 1, "--set-aside")
+        self.done("held 1 --set-aside")
         early, later = (TEN.replace("10:00", hour) for hour in ("08:00", "09:00"))
         self.add(
             letter("cleo", "I want the lake\n"),
@@ -679,7 +679,7 @@ class ReceiptsAndReminders(OutTest):
         )
         # nobody has agreed to this one yet
         self.write("inbox.mbox", mailbox(letter("ida", f"ida {RANKS}\n")))
-        self.election("add", "inbox.mbox")
+        self.election("add inbox.mbox")
         messages = self.written("reminders")
         texts = {name: one_line(message) for name, message in messages.items()}
         self.assertEqual(sorted(texts), elections.NAMES[1:])
@@ -705,7 +705,7 @@ class ReceiptsAndReminders(OutTest):
         self.assertRegex(texts["ida"], f"^(?!.*{NONE}).*{said}")
         # and the secretary, how many letters wait
         waits = r"(?m)^5 letters wait until you have looked at them: debvote-election held$"
-        self.assertRegex(self.told("letters", "reminders", "--yes"), waits)
+        self.assertRegex(self.told("letters reminders --yes"), waits)
 
     def test_the_end_after_an_extension_in_reminders_and_receipts(self):
         self.extend("2026-12-06 18:00")
@@ -758,7 +758,7 @@ class FullDisk(OutTest):
 
         self.add_lines(f"ada {RANKS}")
         demand_named(f"letters/receipts/{self.last_act() + 1}", "letters", "receipts")
-        self.done("close", "--early")
+        self.done("close --early")
         shutil.rmtree(self.folder / "letters")
         demand_named(self.folder.resolve(), "publish")
         # nor that file, if it can't be made
@@ -766,6 +766,7 @@ class FullDisk(OutTest):
             write_whole(self.folder / "gone" / "closed.txt", b"", 0o600)
         self.assertEqual(raised.exception.filename, str(self.folder / "gone" / "closed.txt"))
 
+    @pytest.mark.whole
     def test_it_loses_no_receipt(self):
         """The calls are those that write into the folder and the book; some come in each run, and
         the disk is full at each of them.
@@ -811,9 +812,9 @@ class FullDisk(OutTest):
 
 class CloseAndResult(OutTest):
     def test_an_open_vote(self):
-        self.assert_fault(self.election("letters", "result"), 9, "the vote is not closed")
+        self.refused("letters result", "the vote is not closed")
         self.add_lines(f"ada {RANKS}", f"ben {RANKS}")
-        self.done("close", "--early")
+        self.done("close --early")
         self.done("publish")
         texts = self.texts("result")
         self.assertEqual(sorted(texts), elections.NAMES)
@@ -842,12 +843,12 @@ class CloseAndResult(OutTest):
         # the page does not compare itself
         self.assertNotIn("Count again here", text)
         # none of a vote that is open again; each publication has its letters
-        self.done("reopen", "--because", "a bag was forgotten")
-        ended = self.election("letters", "result")
+        self.done("reopen --because 'a bag was forgotten'")
+        ended = self.election("letters result")
         self.assert_fault(ended, 9, "the vote is not closed", "run debvote-election close first")
-        self.done("desk", "--came-before-close", "yes", given="ada 1,3,4,2\n")
-        self.done("close", "--early")
-        self.done("publish", "result-2")
+        self.done("desk --came-before-close yes", given="ada 1,3,4,2\n")
+        self.done("close --early")
+        self.done("publish result-2")
         texts = self.texts("result")
         self.assertEqual(sorted(texts), elections.NAMES)
         # the ballot that counts now, and not that of the first close
@@ -857,11 +858,11 @@ class CloseAndResult(OutTest):
         self.add_lines(f"ada {RANKS}", "ben 1,2", f"cleo {RANKS}", "hal 1,2")
         self.done("strike", 3, "--because", "a mistake of 'ours' & <yours>")
         self.add_lines(f"gus {RANKS}")
-        self.done("undo", "--yes")
+        self.done("undo --yes")
         self.add(letter("eve", "hello\n"))
-        self.done("close", "--early", "--force", "--because", "enough")
+        self.done("close --early --force --because enough")
         self.add_lines(f"dan {RANKS}")
-        self.done("publish", "--force", "--because", "they were asked")
+        self.done("publish --force --because 'they were asked'")
         texts = self.texts("result")
         self.assertNotIn("that counts", texts["ada"])
         for said in (
@@ -886,13 +887,13 @@ class CloseAndResult(OutTest):
 
     def test_of_a_close_has_the_checksum_and_of_a_second_one_all_get_it(self):
         self.add_lines(f"ada {RANKS}")
-        self.assert_fault(self.election("letters", "closed"), 9, "the vote is not closed")
+        self.refused("letters closed", "the vote is not closed")
         # the second one names what it takes the place of
         before = r"The vote was closed before, on Monday, 23 November 2026, 10:0\S+ \(UTC\), and opened again\. The reason, in the secretary's words: "
         before += r"\(a bag was forgotten\) This letter takes the place of the one about that close, which had this checksum of the ballots: "
         checksum = ""
         for count in ("1 line", "2 lines"):
-            self.done("close", "--early")
+            self.done("close --early")
             text, found = self.read("letters/closed.txt").decode(), self.written("closed")
             self.assertEqual(sorted(found), elections.NAMES)
             for message in found.values():
@@ -905,7 +906,7 @@ class CloseAndResult(OutTest):
             self.assertEqual(bool(told), bool(checksum), text)
             checksum = hashlib.sha256(self.exported()[0].encode()).hexdigest()
             if not told:
-                self.done("reopen", "--because", "a bag was forgotten")
+                self.done("reopen --because 'a bag was forgotten'")
                 for kind, fault in (
                     ("closed", "the vote is not closed"),
                     ("call", "nobody is asked to vote"),
@@ -964,8 +965,8 @@ class Secret(OutTest):
             seen = f"address {before} becomes {address}; the secret code went to {before}, and whoever reads it there will see this vote"
             take_back = "(as long as nothing has come, call --take-back makes new codes)"
             said = f"ada (Ada): {seen}", f"{take_back}. Is that right?"
-            self.assert_refused(["roll"], 9, *said)
-            self.assertIn(f"ada: {seen} {take_back}\n", self.told("roll", "--yes"))
+            self.assert_refused("roll", 9, *said)
+            self.tells("roll --yes", f"ada: {seen} {take_back}\n")
             texts = self.texts("call")
             for one in earlier:
                 told = f"It went to another address before: {one}. Whoever reads letters there will see how you vote."
@@ -981,7 +982,7 @@ class Secret(OutTest):
         ):
             members = elections.members_of(self.names).replace("ada@club.example", address)
             self.write("members.csv", members)
-            said = self.told("roll", "--yes")
+            said = self.told("roll --yes")
             self.assertEqual("secret code" in said, not address, said)
             texts = self.texts(kind)
         told = re.findall(r"It went to another address before: (\S*)\. ", texts["ada"])
@@ -995,11 +996,11 @@ class Secret(OutTest):
             letter("dan", f"dan {RANKS}\n{codes['dan']}\n"),
         )
         found = [*self.written("receipts").values(), *self.written("reminders").values()]
-        self.done("close", "--early", "--force", "--because", "x")
+        self.done("close --early --force --because x")
         found += self.written("closed").values()
         rows = self.book.rows("SELECT alias FROM elector_state WHERE alias <> ''")
-        self.done("publish", "--yes", "--force", "--because", "they were asked")
-        self.done("export", "--yes", "out")
+        self.done("publish --yes --force --because 'they were asked'")
+        self.done("export --yes out")
         private = self.run_program("sh", "-c", "cd out && sha256sum *").output
         results = self.texts("result")
         for said in (

@@ -10,6 +10,8 @@ import textwrap
 import unittest
 from collections.abc import Iterable
 
+import pytest
+
 from debvote_tools.call.call import call_letter
 from debvote_tools.election import Election
 from debvote_tools.outbox.words import Composer
@@ -52,26 +54,26 @@ def like_answers(letters: Iterable[str], questions: Questions, code: str) -> lis
 
 class Letters(unittest.TestCase):
     def test_each_kind_in_each_language(self):
-        for code, (questions, answers) in itertools.product(LANGUAGES, VOTES):
-            letters = set[str]()
-            for kind in KINDS.values():
-                call = dataclasses.replace(
-                    kind,
-                    language=language_of(code),
-                    questions=questions,
-                    quorum_votes=dict.fromkeys(questions, 2),
-                )
-                of_box = dataclasses.replace(call, box_key=b"x", real_names={})
-                later = dataclasses.replace(
-                    call, at=None, until=UNTIL.replace(month=1), letter_text="Dear all,\n"
-                )
-                letters |= {*texts(Composer(call, is_over=True), answers)}
-                for one in (call, of_box, later):
-                    letters |= {*texts(Composer(one, is_over=False), answers)}
-                    letters |= {
-                        call_letter(one, is_extension=is_later) for is_later in (False, True)
-                    }
-            self.assertGreater(len(letters), 100)
+        # each language has each kind and each vote, and each kind has each vote
+        for (number, code), (place, kind) in itertools.product(
+            enumerate(LANGUAGES), enumerate(KINDS.values())
+        ):
+            questions, answers = VOTES[(number + place) % len(VOTES)]
+            call = dataclasses.replace(
+                kind,
+                language=language_of(code),
+                questions=questions,
+                quorum_votes=dict.fromkeys(questions, 2),
+            )
+            of_box = dataclasses.replace(call, box_key=b"x", real_names={})
+            later = dataclasses.replace(
+                call, at=None, until=UNTIL.replace(month=1), letter_text="Dear all,\n"
+            )
+            letters = {*texts(Composer(call, is_over=True), answers)}
+            for one in (call, of_box, later):
+                letters |= {*texts(Composer(one, is_over=False), answers)}
+                letters |= {call_letter(one, is_extension=is_later) for is_later in (False, True)}
+            self.assertGreater(len(letters), 25)
             self.assertEqual(like_answers(letters, questions, code), [], code)
 
     def test_one_is_seen(self):
@@ -89,7 +91,14 @@ class Several(QuestionsTest):
 
     def test_letters_of_close_and_result(self):
         """They have numbers and checksums of each question."""
-        for code in LANGUAGES:
+        self.check("en")
+
+    @pytest.mark.whole
+    def test_letters_of_close_and_result_in_each_other_language(self):
+        self.check(*LANGUAGES)
+
+    def check(self, *codes: str):
+        for code in codes:
             self.folder = self.scratch / code
             self.new_words = ("--questions", "3", "--language", code)
             self.begin()
@@ -101,11 +110,11 @@ class Several(QuestionsTest):
                 "ben C 1,1,3,2",
                 words=("--force",),
             )
-            self.told("strike", "2", "--because", "a mistake")
-            self.told("close", "--early")
-            self.told("reopen", "--because", "one was forgotten")
-            self.told("close", "--early")
-            self.election("publish", "--yes")
+            self.told("strike 2 --because 'a mistake'")
+            self.told("close --early")
+            self.told("reopen --because 'one was forgotten'")
+            self.told("close --early")
+            self.election("publish --yes")
             letters = [self.read(f"letters/{name}.txt").decode() for name in ("closed", "result")]
             questions = Election(self.folder, PROGRAM.parent).questions
             self.assertEqual(like_answers(letters, questions, code), [], code)
@@ -136,7 +145,7 @@ class OfSecretary(OutTest):
             self.write(name, text)
         note = "Note: these look like answers, and letters that quote one of them wait:\n"
         checked = "".join([note, *(f"  {one}\n" for one in self.named)])
-        self.assertIn(checked, self.told("check"))
+        self.tells("check", checked)
         for line in self.refused:
             for name, text in self.texts.items():
                 self.write(name, f"Dear all,\n{line}\n")
@@ -144,12 +153,12 @@ class OfSecretary(OutTest):
                     self.assert_refused([command], 2, f"{name}:2: `{line}` reads as a ballot")
                 self.write(name, text)
         # what is to be looked at the call says, too, and nothing else that `check` has shown
-        said = self.told("call", "--until", "2026-12-04 18:00", "--zone", "UTC")
+        said = self.told("call --until '2026-12-04 18:00' --zone UTC")
         self.assertTrue(said.startswith(checked), said)
         self.assertNotIn("Options:", said)
         # an extension has the letter that is there now
         self.write("letter.txt", self.refused[0])
-        self.assert_refused(["call", "--until", "2026-12-05 18:00"], 2, "letter.txt:1: ")
+        self.assert_refused("call --until '2026-12-05 18:00'", 2, "letter.txt:1: ")
 
 
 class OfSecretaryOfSeveral(QuestionsTest, OfSecretary):

@@ -13,6 +13,9 @@ import tempfile
 import time
 import unittest
 import unittest.mock
+from collections.abc import Iterable
+
+import pytest
 
 from debvote_tools.book.outgoing import REFUSED, TAKEN, OutgoingLetter
 from debvote_tools.cli.faults import Fault
@@ -31,22 +34,15 @@ REPORT = 'multipart/report; report-type=delivery-status; boundary="b"'
 
 class Sending(SendTest):
     def assert_unreached(self, **wanted: str):
-        """Whom `status` names, in both of its forms, with the reason."""
-        said = self.told("status")
+        """Whom `status` names, with the reason."""
         self.assertEqual(self.numbers()["not_reached"], wanted)
-        for reason in {*wanted.values()}:
-            names = [name for name, why in wanted.items() if why == reason]
-            self.assertIn(
-                f"Not reached by the call: {reason} ({len(names)}):\n  {' '.join(names)}\n", said
-            )
-        self.assertEqual("Not reached" in said, bool(wanted))
 
     def test_each_gets_one_letter_and_a_second_run_sends_none(self):
         noted = []
         # each is noted before the next begins
         self.server.at = lambda _, number: noted.append((number, self.rows("call")[9:]))
         self.assertEqual(self.assert_sent("call", "Sent 9 of 9 letters.\n").faults, "")
-        self.assertEqual(self.server.addresses(), ALL)
+        self.assertEqual(self.server.addresses, ALL)
         for taken in self.server.taken:
             message = parsed(taken.data)
             self.assertEqual((message["To"], message["X-Unsent"]), (taken.to, None))
@@ -75,7 +71,7 @@ class Sending(SendTest):
         ended = self.send("call")
         fault = "another command changed the election meanwhile"
         self.assert_fault(ended, 9, fault, "; 4 of 9 letters taken in this run: run the command")
-        self.assertEqual((self.server.addresses(), statuses), (ALL[:4], {1: 0, 3: 0}))
+        self.assertEqual((self.server.addresses, statuses), (ALL[:4], {1: 0, 3: 0}))
         self.assert_sent("call", "Sent 5 of 5 letters.\n")
 
     def test_refused_for_good_or_for_now(self):
@@ -96,17 +92,17 @@ class Sending(SendTest):
             self.assertIn(said, ended.output)
         self.assertNotIn("\x1b", ended.output)
         said = "UTC, to ben@club.example: refused (451 4.7.1 greylisted)\n"
-        self.assertIn(said, self.told("show", "ben"))
-        self.assertEqual(self.server.addresses(), ALL[4:])
+        self.tells("show ben", said)
+        self.assertEqual(self.server.addresses, ALL[4:])
         # each run tries them again
         self.server.data_answers = {}
         refused = {ALL[0]: "550 5.1.1 no such user"}
         self.assert_sent("call", "Sent 3 of 4 letters.\n", 9, refused)
-        self.assertEqual(self.server.addresses(), [*ALL[4:], *ALL[1:4]])
+        self.assertEqual(self.server.addresses, [*ALL[4:], *ALL[1:4]])
         named = "Not reached by the call: ada (refused: 550 5.1.1 no such user)\n"
         self.add_lines(f"ben {RANKS}")
         self.assertIn(named, self.send("receipts").output)
-        self.assertIn(named, self.told("letters", "receipts"))
+        self.tells("letters receipts", named)
         self.assert_unreached(ada="refused")
         # what is written as files now is the letter that no server has taken; a new address is
         # another try, with a new own mark
@@ -114,7 +110,7 @@ class Sending(SendTest):
         self.assertEqual(message["To"], ALL[0])
         self.change_roll("ada@club", "ada@new")
         self.assertNotIn("Not reached", self.assert_sent("call").output)
-        self.assertEqual(self.server.addresses()[9:], ["ada@new.example"])
+        self.assertEqual(self.server.addresses[9:], ["ada@new.example"])
         self.assertNotEqual(parsed(self.server.taken[-1].data)["Subject"], message["Subject"])
         self.assert_unreached()
         self.assert_none_is_due("call")
@@ -128,13 +124,13 @@ class Sending(SendTest):
             self.assert_unreached(**{name: "refused"})
             self.assert_sent("call", "Sent 1 of 1 letter.\n")
             self.assert_unreached()
-            self.assertEqual(self.server.addresses()[-1], f"{name}@club.example")
+            self.assertEqual(self.server.addresses[-1], f"{name}@club.example")
             self.assert_none_is_due("call")
 
     def test_who_has_voted_needs_no_call_on_paper(self):
         self.change_roll(ALL[6], "")
         self.assert_sent("call")
-        self.assertIn("Get the call printed (1):\n  gus\n", self.told("status"))
+        self.tells("status", "Get the call printed (1):\n  gus\n")
         self.add_lines(f"gus {RANKS}")
         self.assertNotIn("Get the call printed", self.told("status"))
         self.assertEqual(self.numbers()["printed"], ["gus"])
@@ -145,12 +141,14 @@ class Sending(SendTest):
         """
         self.change_roll(ALL[6], "")
         self.assert_unreached()
+        self.assertNotIn("Not reached", self.told("status"))
         self.assertEqual(self.numbers()["printed"], [])
         self.server.at = lambda step, number: (step, number) == ("data", 6)
         self.assertEqual(self.send("call").status, 7)
         self.server.at = lambda step, number: False
         self.assert_unreached(hal="no letter", ida="no letter")
-        self.assertIn("Get the call printed (1):\n  gus\n", self.told("status"))
+        unreached = "Not reached by the call: no letter (2):\n  hal ida\n"
+        self.tells("status", "Get the call printed (1):\n  gus\n", unreached)
         said = self.send("call").output
         self.assertRegex(
             said, "(?s)^(?!.*Not reached).*Without an address: gus. Print letters/call/"
@@ -161,9 +159,9 @@ class Sending(SendTest):
         self.assertEqual(self.numbers()["printed"], ["hal"])
         self.change_roll("ada@club", "ada@new", ALL[8], "")
         self.assert_unreached(**dict.fromkeys(("ada", "gus", "hal"), "no letter"))
-        self.assertIn(
+        self.tells(
+            "letters receipts",
             "Not reached by the call: ada (no letter), gus (no letter), hal (no letter)\n",
-            self.told("letters", "receipts"),
         )
         self.send("call")
         self.assert_unreached()
@@ -174,10 +172,10 @@ class Sending(SendTest):
         self.assertIn("You have more time to vote.", self.files("call")[0].read_text())
         # what a server refused of a call that was taken back is no news of the next one, nor who
         # leaves the list
-        self.done("call", "--take-back")
+        self.done("call --take-back")
         self.change_roll("Dan,dan@club.example\n", "")
         self.done("call", *self.call_words)
-        self.told("letters", "call")
+        self.told("letters call")
         self.assert_unreached()
         # nor is one that comes back now
         self.came_back("eve", "id")
@@ -283,7 +281,7 @@ class Sending(SendTest):
             self.came_back(name, what)
         self.assert_unreached(**back)
         named = f"Not reached by the call: {', '.join(f'{name} (came back)' for name in back)}\n"
-        self.assertIn(named, self.told("letters", "receipts"))
+        self.tells("letters receipts", named)
         for _ in range(2):
             self.server.taken.clear()
             self.assertIn(named, self.assert_sent("call", "Sent 6 of 6 letters.\n").output)
@@ -296,7 +294,7 @@ class Sending(SendTest):
         self.add_lines(f"ada {RANKS}")
         for said in ("Sent 2 of 2 letters.\n", "Sent 1 of 1 letter.\n"):
             self.assert_sent("receipts", said)
-        self.assertEqual(self.server.addresses()[-1], "ada@home.example")
+        self.assertEqual(self.server.addresses[-1], "ada@home.example")
         self.change_roll("@club.example", "@new.example")
         self.assert_sent("call", "Sent 9 of 9 letters.\n")
         self.assert_unreached()
@@ -324,7 +322,7 @@ class Sending(SendTest):
             self.add(letter(name, f"{name} {OTHER_RANKS}\n", time=time, number=number))
             self.done("held", number, "--enter", *FORCED)
             self.assert_unreached(**found)
-        self.done("undo", "--yes")
+        self.done("undo --yes")
         self.assert_unreached(**both)
 
     def test_what_came_last_is_the_reason(self):
@@ -338,9 +336,9 @@ class Sending(SendTest):
         self.assert_unreached(ada="refused")
         # nor does it reach her if a letter to her is only written, also one with a new own mark
         self.add_lines(f"ada {RANKS}")
-        self.assertIn("Wrote 1 letter: ", self.told("letters", "receipts"))
+        self.tells("letters receipts", "Wrote 1 letter: ")
         self.change_roll(ALL[0], f"{ALL[0]} home@x.example")
-        self.told("letters", "call")
+        self.told("letters call")
         self.assert_unreached(ada="refused")
         self.came_back("ada", "head")
         self.assert_unreached(ada="came back")
@@ -425,16 +423,16 @@ class Sending(SendTest):
         self.change_roll("ada@club", "ada@new", "ben@club", "ben@new")
         self.assert_sent("receipts", "Sent 2 of 3 letters.", refused=refused)
         now = ["ada@new.example", "ben@new.example", *ALL[2:]]
-        self.assertEqual(self.server.addresses(), [ALL[2], *now[:2]])
+        self.assertEqual(self.server.addresses, [ALL[2], *now[:2]])
         self.assertIn(f"It was read as: {LAKE}", self.server.texts()["ben"])
         self.assert_sent("receipts", "Sent 1 of 1 letter.")
-        self.assertEqual(self.server.addresses()[3:], [ALL[0]])
+        self.assertEqual(self.server.addresses[3:], [ALL[0]])
         # those that go out again do so in the order in which they were written
         self.add_lines(*(f"{name} {OTHER_RANKS}" for name in self.names))
         refused = dict.fromkeys(now, "451 later")
         self.assert_sent("receipts", "Sent 0 of 9 letters.", 9, refused)
         self.assert_sent("receipts", "Sent 9 of 9 letters.")
-        self.assertEqual(self.server.addresses()[4:], now)
+        self.assertEqual(self.server.addresses[4:], now)
 
     def test_a_receipt_that_is_a_file_is_sent_once_to_each_address(self):
         """Whether the address changed before it was written or after."""
@@ -451,13 +449,13 @@ class Sending(SendTest):
             self.server.taken.clear()
             self.add_lines(f"{name} {RANKS}")
             if not is_before:
-                self.told("letters", "receipts")
+                self.told("letters receipts")
             self.change_roll(f"{name}@club", f"{name}@new")
             if is_before:
-                self.told("letters", "receipts")
+                self.told("letters receipts")
             self.assert_sent("receipts")
             self.assertEqual(
-                sorted(self.server.addresses()), [f"{name}@club.example", f"{name}@new.example"]
+                sorted(self.server.addresses), [f"{name}@club.example", f"{name}@new.example"]
             )
             self.assert_none_is_due("receipts")
 
@@ -479,10 +477,10 @@ class Sending(SendTest):
         # alone: what the server took is no file again, nor is it said to be one
         shutil.rmtree(place)
         said += "No other letter is to be sent.\nNext: "
-        self.assertTrue(self.told("letters", "receipts").startswith(said))
+        self.assertTrue(self.told("letters receipts").startswith(said))
         self.assertEqual([file for file in place.rglob("*") if file.is_file()], [page])
         # the address that she had before gets the first, too
-        self.assertEqual(sorted(self.server.addresses()), ALL[:2])
+        self.assertEqual(sorted(self.server.addresses), ALL[:2])
         # what comes of her later is on a new page
         self.add_lines(f"ada {OTHER_RANKS}")
         self.send("receipts")
@@ -490,10 +488,10 @@ class Sending(SendTest):
 
     def test_after_a_second_close_its_letter_goes_out_too(self):
         for _ in range(2):
-            self.done("close", "--early")
+            self.done("close --early")
             self.assert_sent("closed", "Sent 9 of 9 letters.\n")
             self.assert_none_is_due("closed")
-            self.done("reopen", "--because", "a bag was forgotten")
+            self.done("reopen --because 'a bag was forgotten'")
 
     def test_who_was_not_reached_gets_the_whole_call_after_an_extension(self):
         """A run that took nothing reaches nobody, whether the letters were files before or not; nor
@@ -504,10 +502,10 @@ class Sending(SendTest):
             self.assertEqual(self.send("call").status, 7)
             self.assert_unreached(**dict.fromkeys(elections.NAMES, "no letter"))
             # a mail program has them now
-            self.told("letters", "call")
+            self.told("letters call")
             self.assert_unreached()
             acts = self.last_act()
-            self.told("letters", "call")
+            self.told("letters call")
             self.assertEqual(self.last_act(), acts)
         self.assertEqual(self.send("call").status, 7)
         self.server.mail_answer = "250 OK"
@@ -529,6 +527,9 @@ class Sending(SendTest):
                 refused = {ALL[1]: "451 later", ALL[2]: "550 no"}
                 self.assert_sent("reminders", "", 9, refused)
                 self.assert_unreached(ada="came back", ben="refused", cleo="refused")
+                unreached = "Not reached by the call: "
+                for said in ("came back (1):\n  ada\n", "refused (2):\n  ben cleo\n"):
+                    self.tells("status", f"{unreached}{said}")
 
     def test_a_refused_sender_and_a_lost_connection_cost_nobody_their_letter(self):
         self.server.mail_answer = "553 not yours"
@@ -549,7 +550,7 @@ class Sending(SendTest):
 
         self.server.at = once
         self.assert_sent("call", "Sent 6 of 6 letters.\n")
-        self.assertEqual((self.server.addresses(), len(cut)), (ALL, 2))
+        self.assertEqual((self.server.addresses, len(cut)), (ALL, 2))
         self.assert_none_is_due("call")
 
     def test_a_server_that_is_not_there_or_lets_nobody_in(self):
@@ -567,21 +568,12 @@ class Sending(SendTest):
         message = parsed(self.server.taken[0].data)
         self.assertEqual((message["From"], message["Reply-To"]), (sender, "vote@club.example"))
         self.assertEqual(self.server.logins[-1], (b"vote", b"right"))
-        self.assertEqual(self.server.addresses(), ALL)
+        self.assertEqual(self.server.addresses, ALL)
 
     def test_words_that_do_not_go_together(self):
-        send = ("--send", "--server", "x.example")
-        for words, *parts in (
+        for typed, *parts in (
             (
-                (
-                    "--server",
-                    "x y",
-                    "--yes",
-                    "--at",
-                    "ftp:",
-                    "--from",
-                    "two@x.example, b@x.example",
-                ),
+                "--server 'x y' --yes --at ftp: --from 'two@x.example, b@x.example'",
                 "--server: only with --send",
                 "--at: only with result",
                 "--yes: only with reminders",
@@ -589,11 +581,11 @@ class Sending(SendTest):
                 "--from: it must be one mail address",
                 "not the name of a server",
             ),
-            (("--user", "x", "--password-file", "p"), "--user, --password-file: only with --send"),
-            ((*send, "--password-file", "p"), "only with --user"),
-            ((*send, "--user", "u", "--password-file", "none"), "none: No such file"),
+            ("--user x --password-file p", "--user, --password-file: only with --send"),
+            ("--send --server x.example --password-file p", "only with --user"),
+            ("--send --server x.example --user u --password-file none", "none: No such file"),
         ):
-            ended = self.election("letters", "call", *words)
+            ended = self.election(f"letters call {typed}")
             faults = ended.faults.splitlines()
             found = [part in fault for part, fault in zip(parts, faults, strict=True)]
             self.assertEqual((ended.status, found), (2, [True] * len(parts)), faults)
@@ -605,7 +597,7 @@ class Sending(SendTest):
         self.assert_sent("receipts", status=9, refused={ALL[3]: "451 later"})
         self.done("held", 1, "--enter", *FORCED)
         self.assert_sent("receipts")
-        self.assertEqual(self.server.addresses().count(ALL[3]), 1)
+        self.assertEqual(self.server.addresses.count(ALL[3]), 1)
         self.assertIn(f"It was read as: {LAKE}", self.server.texts()["dan"])
 
 
@@ -615,36 +607,36 @@ class Remembered(SendTest):
     """
 
     def test_the_server_of_the_last_letters(self):
-        send = self.election("letters", "call", "--send")
+        send = self.election("letters call --send")
         self.assert_fault(send, 2, "--send: no server is named", "give --server HOST[:PORT]")
-        self.assertIn(
+        self.tells(
+            "letters call",
             "9 letters of the call are not sent: debvote-election letters --send --server HOST; or",
-            self.told("letters", "call"),
         )
         self.send("call")
-        said = self.told("letters", "reminders", "--send")
+        said = self.told("letters reminders --send")
         self.assertTrue(
             said.startswith(f"To the server of the last letters: {self.server.name}\n"), said
         )
-        self.assertEqual(self.server.addresses(), ALL * 2)
+        self.assertEqual(self.server.addresses, ALL * 2)
         # a file does not need it
         self.add_lines(f"ada {RANKS}")
-        said = self.told("letters", "receipts")
+        said = self.told("letters receipts")
         self.assertNotIn(self.server.name, said)
         self.assertIn("1 receipt is not sent: debvote-election letters --send; or", said)
         # one that is named takes its place
         first, self.server = self.server, self.mail_server()
         self.assert_sent("receipts")
         self.add_lines(f"ben {RANKS}")
-        self.done("letters", "receipts", "--send")
-        self.assertEqual(self.server.addresses(), ALL[:2])
+        self.done("letters receipts --send")
+        self.assertEqual(self.server.addresses, ALL[:2])
         # one that is gone
         self.server.stop()
-        self.assert_fault(
-            self.election("letters", "reminders", "--send", "--yes"),
-            7,
+        self.refused(
+            "letters reminders --send --yes",
             f"{self.server.name}: no connection",
             "the server of the last letters: if it is gone, name another with --server",
+            status=7,
         )
         # a copy that was moved sends no letters
         moved = ("--moved", "--because", "a rehearsal")
@@ -653,7 +645,7 @@ class Remembered(SendTest):
         said = (
             "7 reminders are not sent: debvote-election letters reminders --send --server HOST; or"
         )
-        self.assertIn(said, self.told("letters", "reminders", "--yes"))
+        self.tells("letters reminders --yes", said)
         self.server = first
         self.assert_sent("reminders")
 
@@ -710,6 +702,10 @@ class Endless(unittest.TestCase):
         self.assertLess(len(drops), 200)
 
 
+# of a conversation about one letter
+STEPS = ("mail", "rcpt", "data")
+
+
 class Killed(SendTest):
     """A run is killed at each step of each letter."""
 
@@ -735,16 +731,21 @@ class Killed(SendTest):
         return process.returncode
 
     def test_none_is_lost_and_only_that_of_the_kill_may_go_out_twice(self):
-        for kills, (step, number) in enumerate(
-            itertools.product(("mail", "rcpt", "data"), range(3))
-        ):
+        self.check(zip(STEPS, range(3)))
+
+    @pytest.mark.whole
+    def test_at_each_step_of_each_letter(self):
+        self.check(itertools.product(STEPS, range(3)))
+
+    def check(self, kills: Iterable[tuple[str, int]]):
+        for day, (step, number) in enumerate(kills, start=5):
             with self.subTest(step=step, number=number):
                 self.server.taken.clear()
-                self.extend(f"2026-12-{5 + kills:02} 18:00")
+                self.extend(f"2026-12-{day:02} 18:00")
                 self.assertEqual(self.status_of_killed(step, number), -9)
                 self.assert_sent("call")
                 twice = [ALL[number]] if step == "data" else []
-                self.assertEqual(sorted(self.server.addresses()), sorted([*ALL[:3], *twice]))
+                self.assertEqual(sorted(self.server.addresses), sorted([*ALL[:3], *twice]))
                 self.assertEqual(
                     len({parsed(taken.data)["Message-ID"] for taken in self.server.taken}), 3
                 )
@@ -762,7 +763,7 @@ class SeveralRuns(SendTest):
         self.assert_sent("reminders")
         self.assert_sent("reminders")
         wanted = [ALL[1], "cleo@new.example", *ALL[:2], "cleo@new.example", *ALL[4:]]
-        self.assertEqual(self.server.addresses()[6:], wanted)
+        self.assertEqual(self.server.addresses[6:], wanted)
 
     def test_a_reminder_that_no_server_can_take_holds_up_no_new_run(self):
         """One to be printed, or to an address that was wrong, or that the server postpones for
@@ -784,11 +785,11 @@ class SeveralRuns(SendTest):
 
     def test_two_runs_at_once_send_each_letter_once(self):
         """Processes of their own, at the same time."""
-        runs = [self.sending() for _ in range(3)]
+        runs = [self.sending() for _ in range(2)]
         outputs = [run.communicate(timeout=elections.SECONDS)[0] for run in runs]
-        self.assertEqual([run.returncode for run in runs], [0, 0, 0])
+        self.assertEqual([run.returncode for run in runs], [0, 0])
         self.assertEqual(sum("Sent 9 of 9 letters." in output for output in outputs), 1, outputs)
-        self.assertEqual(self.server.addresses(), ALL)
+        self.assertEqual(self.server.addresses, ALL)
 
     def test_the_password_is_asked_and_a_bar_is_shown(self):
         self.server = self.mail_server_with_login()
@@ -901,7 +902,7 @@ class Encrypted(unittest.TestCase):
             self.assert_gets_nothing(server, near, "certificate")
             with unittest.mock.patch.dict(os.environ, {"SSL_CERT_FILE": certificate}):
                 [tried] = sent_to(near)
-            self.assertEqual((tried.state, server.addresses()), (TAKEN, ALL[:1]))
+            self.assertEqual((tried.state, server.addresses), (TAKEN, ALL[:1]))
             self.assertTrue(server.was_encrypted)
 
 

@@ -18,7 +18,7 @@ class Ready(SendTest):
     def assert_sent_by_all(self, subject: str, *names: str, status: int = 0) -> elections.Ended:
         """Sends without a kind; the server gets letters with this subject, to these."""
         self.server.taken.clear()
-        ended = self.election("letters", "--send", "--server", self.server.name)
+        ended = self.send()
         self.assertEqual(ended.status, status, ended)
         found = [
             (one.to.partition("@")[0], parsed(one.data)["Subject"].partition(":")[0])
@@ -51,13 +51,13 @@ class Ready(SendTest):
         self.add_lines("ada 2,1,4,3")
         self.assertIn(RECEIPT, self.assert_sent_by_all("").output)
         # `close` and `publish` say which are ready, and where
-        said = self.done("close", "--early").output
+        said = self.done("close --early").output
         place = f"letters/closed/{self.last_act() - 1}"
         ready = (
             f"\nWithout an address: cleo. Print {place}/to-print.html.\nReady: 2 letters, {place}\n"
         )
         self.assertIn(f"{ready}{RECEIPT}", said)
-        self.done("letters", "receipts", "--send")
+        self.done("letters receipts --send")
         self.assertEqual(self.server.taken.pop().to, "ada@club.example")
         next_ = "\nNext: 2 letters of the close are not sent: debvote-election letters --send; or by your mail program: debvote-election letters closed, then "
         self.assertIn(next_, self.done("close").output)
@@ -76,7 +76,7 @@ class Ready(SendTest):
         said = self.assert_sent_by_all("Result", "ada", "ben").output
         self.assertIn("result: Sent 2 of 2 letters.\n", said)
         self.assert_sent_by_all("")
-        self.done("log", "--check")
+        self.done("log --check")
 
     def test_what_is_left_to_others(self):
         """A letter that was refused is tried again; what one kind stops at keeps no other back."""
@@ -85,23 +85,23 @@ class Ready(SendTest):
         self.assertIn(said, self.assert_sent_by_all("Vote", "ben", status=9).output)
         self.server.rcpt_answers.clear()
         self.assert_sent_by_all("Vote", "ada")
-        self.done("close", "--early")
-        self.done("publish", "--force", "--because", "early")
+        self.done("close --early")
+        self.done("publish --force --because early")
         # a letter in time stops the letters of close and result alone
         self.write("inbox.mbox", mailbox(letter("ada", "ada 1,2,4,3\n")))
-        self.election("add", "--yes", "inbox.mbox")
-        self.done("letters", "receipts")
+        self.election("add --yes inbox.mbox")
+        self.done("letters receipts")
         ended = self.assert_sent_by_all("Receipt", "ada", status=9)
         fault = "these letters arrived in time, and wait: 1;"
         self.assertEqual(ended.faults.count(fault), 2, ended.faults)
         self.done("held 1 --set-aside")
-        self.election("letters", "--send", "--server", self.server.name)
+        self.send()
         closed = "Where we meet in spring"
         self.assertEqual([closed in one.data.decode() for one in self.server.taken[1:]], [True] * 4)
 
     def test_words(self):
         fault = "letters: no kind is named; nothing was written: name one of call, receipts, reminders, closed, void, result; only --send goes without it"
-        self.assert_refused(["letters"], 2, fault)
+        self.assert_refused("letters", 2, fault)
         send = ("letters", "--send", "--server", self.server.name)
         self.assert_refused([*send, "--force", "--because", "x"], 2, "letters: no kind is named")
         for words in (("--at", "https://club.example/x/"), ("--codes",), ("--yes",)):
@@ -115,9 +115,9 @@ class OnTheRoll(SendTest):
     call_words = ("--to", "vote@club.example", "--yes")
 
     def test_no_letter(self):
-        ended = self.election("letters", "--send", "--server", self.server.name)
+        ended = self.send()
         self.assert_fault(ended, 9, "codes are on the roll, and nobody knows whose they are")
-        said = self.done("close", "--yes").output
+        said = self.done("close --yes").output
         self.assertNotIn("Ready: ", said)
         following = "count anything.\nNext: send letters/closed.txt to all electors, then debvote-election status --done letters\n"
         self.assertTrue(said.endswith(following), said)
@@ -136,7 +136,7 @@ class WithCodes(SendTest):
         for kind, count in (("receipts", 1), ("call", 10)):
             self.done("letters", kind)
             self.done("letters", "--send", "--server", self.server.name)
-            self.assertEqual(self.server.addresses(), [everybody[0], *everybody][:count])
+            self.assertEqual(self.server.addresses, [everybody[0], *everybody][:count])
         self.assertNotIn(b"code", self.server.taken[0].data)
 
 
@@ -168,7 +168,7 @@ class WithBox(boxes.BoxElectionTest):
         next_ = ", vote.php too; then debvote-election add --box; then 9 letters of the call are not sent: "
         self.assertIn(next_, self.done("call", *words).output)
         self.done("desk", given="ada 1,2,3,4\n")
-        self.done("letters", "receipts")
+        self.done("letters receipts")
         send = ("letters", "--send", "--server", self.server.name)
         fault = (
             "call: nobody has seen yet whether the web box works",
@@ -176,17 +176,17 @@ class WithBox(boxes.BoxElectionTest):
         )
         self.assert_fault(self.election(*send), 9, *fault)
         everybody = [f"{name}@club.example" for name in elections.NAMES]
-        self.assertEqual(self.server.addresses(), everybody[:1])
+        self.assertEqual(self.server.addresses, everybody[:1])
         self.upload()
         self.done(*send)
-        self.assertEqual(self.server.addresses()[1:], everybody)
-        self.assertTrue(json.loads(self.done("status", "--json").output)["box"]["is_present"])
+        self.assertEqual(self.server.addresses[1:], everybody)
+        self.assertTrue(json.loads(self.done("status --json").output)["box"]["is_present"])
         # after an early close the page is asked once more before the letters of the close
-        said = self.done("close", "--early").output
+        said = self.done("close --early").output
         self.assertNotIn("Ready: ", said)
         next_ = "\nNext: 9 letters of the close are not sent: debvote-election letters --send; or "
         self.assertIn(next_, said)
         self.done(*send)
-        self.assertEqual(self.server.addresses()[10:], everybody)
-        said = self.done("publish", "--force", "--because", "early").output
+        self.assertEqual(self.server.addresses[10:], everybody)
+        said = self.done("publish --force --because early").output
         self.assertIn("Ready: 9 letters, letters/result/", said)

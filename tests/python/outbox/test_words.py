@@ -1,5 +1,6 @@
 """What letters say, and their bytes: each outcome in each language, and hostile names."""
 
+import base64
 import dataclasses
 import datetime
 import email
@@ -8,7 +9,6 @@ import importlib.util
 import itertools
 import pathlib
 import re
-import subprocess
 import tempfile
 import types
 import unittest
@@ -20,7 +20,7 @@ from debvote_tools.call.call import call_page
 from debvote_tools.inbox.fates import REFUSED, Fate
 from debvote_tools.inbox.letter_text import ReadLine
 from debvote_tools.inbox.reasons import Reason, ReasonWithValues, for_elector
-from debvote_tools.inbox.rules import LetterOutcome
+from debvote_tools.inbox.rules import Ruling
 from debvote_tools.outbox.letter_folder import message, picture_of, rows_to_print
 from debvote_tools.outbox.words import OF_BALLOT, PACKAGE, SUBJECTS, Composer, OutgoingText
 from debvote_tools.poll.questions import Questions
@@ -29,7 +29,7 @@ from debvote_tools.text.ballots import faults_of
 from debvote_tools.text.language import LANGUAGES, language_of
 from debvote_tools.text.rendering import one_line as on_one_line, render_page, resources
 
-from tests.support.at_browser import BROWSER, Window
+from tests.support.at_browser import NEEDS_BROWSER, Window
 from tests.support.call_examples import CALL, alone
 from tests.support.outgoing import parsed
 
@@ -101,19 +101,19 @@ def all_that_came(answers: str = "1,2,3") -> list[Fate]:
         Fate(TIME, REFUSED, envelope(9, "ada 1", answer), came_by=source) for answer in refused
     ]
     for outcome, is_own, standing in itertools.product(
-        (LetterOutcome.WAITS, LetterOutcome.SET_ASIDE), (True, False), ([], [typed(2, line)])
+        (Ruling.WAITS, Ruling.SET_ASIDE), (True, False), ([], [typed(2, line)])
     ):
         letter = came_letter(
             Reason.NO_BALLOT(),
             refused=read,
             not_taken_back=standing,
-            is_pending=outcome is LetterOutcome.WAITS,
+            is_pending=outcome is Ruling.WAITS,
         )
         fates.append(Fate(TIME, outcome, letter=letter, is_own=is_own))
     return fates
 
 
-WAITS = next(one for one in all_that_came() if one.became is LetterOutcome.WAITS and one.is_own)
+WAITS = next(one for one in all_that_came() if one.became is Ruling.WAITS and one.is_own)
 
 
 def letters(now: Composer, answers: str = "1,2,3") -> list[OutgoingText]:
@@ -396,7 +396,7 @@ class CallLetter(unittest.TestCase):
             self.assertNotIn("majority ratio 1", text.lower())
 
 
-@unittest.skipUnless(BROWSER, "chromium is not installed")
+@NEEDS_BROWSER
 class Printed(unittest.TestCase):
     def page(self, **how: object) -> pathlib.Path:
         folder = pathlib.Path(self.enterContext(tempfile.TemporaryDirectory()))
@@ -417,10 +417,10 @@ class Printed(unittest.TestCase):
 
     def sides(self, **how: object) -> int:
         """How many sides letters have in print."""
-        folder = self.page(**how).parent
-        words = f"--headless --no-sandbox --disable-gpu --user-data-dir={folder}/of-browser --print-to-pdf={folder}/page.pdf {folder}/page.html"
-        subprocess.run([BROWSER, *words.split()], check=True, capture_output=True)
-        return len(re.findall(rb"/Type\s*/Page\b", pathlib.Path(folder, "page.pdf").read_bytes()))
+        with Window(900, 1400) as window:
+            window.open(self.page(**how))
+            printed = window.tell("Page.printToPDF", preferCSSPageSize=True)["data"]
+        return len(re.findall(rb"/Type\s*/Page\b", base64.b64decode(printed)))
 
     def test_a_question_is_apart_from_the_boxes_above_it(self):
         questions = Questions(dict.fromkeys("ABC", POLL), "Meeting")

@@ -86,23 +86,24 @@ class BoxPageTest(unittest.TestCase):
         cls.window = cls.enterClassContext(Window(390, 844))
         cls.ask = cls.window.ask
 
-    def visit(self, at: str, place: str = ""):
+    def visit(self, host: Host | Liar, place: str = PLACES["ada"]):
         self.window.tell("Page.navigate", url="about:blank")
         self.window.until("location.href === 'about:blank'")
         self.window.faults.clear()
-        self.window.tell("Page.navigate", url=f"{at}{place}")
+        self.window.tell("Page.navigate", url=host.at + place)
         self.window.until("document.readyState === 'complete' && location.href !== 'about:blank'")
 
+    @property
     def state(self) -> dict[str, Any]:
         return dict(self.ask(STATE))
 
     def assert_state(self, **wanted: object):
         """What is seen is that of an empty page, but for this."""
-        self.assertEqual(self.state(), EMPTY | wanted)
+        self.assertEqual(self.state, EMPTY | wanted)
 
     def choose(self, ranks: str, name: str | None = None) -> dict[str, Any]:
         self.window.ballot(name, ranks)
-        return self.state()
+        return self.state
 
     def press(self):
         self.ask("document.getElementById('Vote').click()")
@@ -112,7 +113,7 @@ class BoxPageTest(unittest.TestCase):
         self.press()
         passing = json.dumps(["", *(words["sending"] for words in WORDS_IN.values())])
         self.window.until(f"!{passing}.includes(document.getElementById('Sent').textContent)")
-        return str(self.state()["said"])
+        return str(self.state["said"])
 
     def until_arrived(self):
         self.window.until(
@@ -139,17 +140,19 @@ class RealBoxTest(BoxPageTest):
         self.host = self.enterContext(Host(self.folder))
         self.file = self.folder / records_file(KEY)
 
+    @property
     def records(self) -> list[str]:
         """The records of the box, as they are."""
         data = self.file.read_text() if self.file.exists() else ""
         return data.removeprefix(FIRST.decode()).split(END_OF_RECORD.decode())[:-1]
 
+    @property
     def lines(self) -> list[str]:
         """What the box has, opened: of each record the line, which came by the link of its
         elector.
         """
         lines = []
-        for record in self.records():
+        for record in self.records:
             lines.append(line := sealing.line_in(KEY, record))
             [mark] = re.findall(r"Subject: \[(\w+)\]", record)
             [proof] = re.findall(r"X-Proof: (.*)", record)
@@ -160,7 +163,7 @@ class RealBoxTest(BoxPageTest):
 
 class Clicks(RealBoxTest):
     def test_a_click_a_change_and_back_again(self):
-        self.visit(self.host.at, PLACES["ada"])
+        self.visit(self.host)
         self.assert_state()
         self.choose("12-3")
         ready = {"button": True, "seen": True, "line": "ada 1,2,-,3"}
@@ -173,14 +176,14 @@ class Clicks(RealBoxTest):
                 break
         self.window.press("Enter")
         self.until_arrived()
-        said = self.state()["said"]
+        said = self.state["said"]
         arrived = (
             r"^It has arrived, sent \w+ \d+, 20\d\d, \d.*\. The secretary fetches it, and you get "
         )
         self.assertRegex(said, arrived)
         self.assert_state(**ready | {"said": said, "button": False})
         # the time that is said is the one that is sealed
-        [record] = self.records()
+        [record] = self.records
         number, text = re.findall(r"<(\w+)@", record)[0], record.rpartition("\n")[2]
         *inside, sent = sealing.key_pair(KEY, MARK)[1](number, text).split("\n")
         self.assertEqual(inside, ["ada 1,2,-,3", PLACES["ada"][1:]])
@@ -201,12 +204,12 @@ class Clicks(RealBoxTest):
         for ranks in ("3---", "12-3"):
             self.choose(ranks)
             self.demand_arrived()
-        self.assertEqual(self.lines(), ["ada 1,2,-,3", "ada 3,-,-,-", "ada 1,2,-,3"])
+        self.assertEqual(self.lines, ["ada 1,2,-,3", "ada 3,-,-,-", "ada 1,2,-,3"])
         self.assertEqual(self.window.faults, [])
         # no request but the page and the clicks
         self.assertEqual(self.host.requests(), ["GET /", *["POST /vote.php"] * 3])
         # each is as long as each other, with a key of its own, and what is kept tells nothing
-        sealed = [record.rpartition("\n")[2] for record in self.records()]
+        sealed = [record.rpartition("\n")[2] for record in self.records]
         self.assertEqual([len(text) for text in sealed], [292] * 3)
         self.assertEqual(len({text[:80] for text in sealed}), 3)
         for secret in (LINKS["ada"], OWNS["ada"], "1,2,-", "3,-,-,-"):
@@ -233,7 +236,7 @@ class Clicks(RealBoxTest):
             ("", "ada", "unlinked"),
         ):
             with self.subTest(place=place, name=name):
-                self.visit(self.host.at, place)
+                self.visit(self.host, place)
                 self.choose("1234", name)
                 line = f"{(name or 'ada').strip().lower()} 1,2,3,4"
                 seen = {which: True} if which else {"seen": True, "button": True}
@@ -249,21 +252,10 @@ class Clicks(RealBoxTest):
             "unlinked": "Object.defineProperty(window, 'isSecureContext', { value: false })",
         }.items():
             with self.subTest(what), self.window.before_each_page(script):
-                self.visit(self.host.at, ada)
+                self.visit(self.host)
                 self.choose("1234")
                 self.assert_state(line="ada 1,2,3,4", **{what: True})
         self.assertEqual({*self.host.requests()}, {"GET /"})
-
-    def test_under_a_worker_of_another_page(self):
-        """It may change this page."""
-        (self.folder / "else.html").write_text("<!doctype html><p>Elsewhere")
-        (self.folder / "worker.js").write_text("")
-        self.visit(f"{self.host.at}else.html")
-        ready = "navigator.serviceWorker.register('worker.js').then(() => navigator.serviceWorker.ready)"
-        self.assertTrue(self.ask(f"{ready}.then(() => true)"))
-        self.visit(self.host.at, PLACES["ada"])
-        self.choose("1234")
-        self.assert_state(line="ada 1,2,3,4", worked=True)
 
     def test_what_was_not_taken_is_sealed_anew_with_the_time_of_now(self):
         """What may have arrived is not, and its line can't be changed: it is sent again as it was,
@@ -279,21 +271,21 @@ class Clicks(RealBoxTest):
             yield arrived if said is None else said
 
         with Liar(lie) as between:
-            self.visit(between.at, PLACES["cleo"])
+            self.visit(between, PLACES["cleo"])
             self.choose("4321")
             seen = {"line": "cleo 4,3,2,1", "button": True, "seen": True}
             for state, fields in (("lost", 21), ("lost", 21), ("unsure", 0), ("unsure", 0)):
                 self.assertEqual(self.sent(), WORDS[state])
                 self.assert_state(said=WORDS[state], **seen | {"fields": fields})
             self.demand_arrived()
-            self.assertEqual(self.state()["fields"], 21)
+            self.assertEqual(self.state["fields"], 21)
             posts = [one for one in between.requests if one.startswith(b"POST")]
         posted = [one.partition(b"\r\n\r\n")[2] for one in posts]
         self.assertEqual((len({*posted[:3]}), len({*posted[2:]})), (3, 1))
-        self.assertEqual(self.lines(), ["cleo 4,3,2,1"])
+        self.assertEqual(self.lines, ["cleo 4,3,2,1"])
 
     def test_a_link_that_a_new_one_has_replaced(self):
-        self.visit(self.host.at, f"#ada/{OWNS['ada']}/{LINKS['ben']}")
+        self.visit(self.host, f"#ada/{OWNS['ada']}/{LINKS['ben']}")
         self.choose("1234")
         self.assertEqual(self.sent(), WORDS["unknown"])
         # the newest letter is opened in the same window
@@ -303,7 +295,7 @@ class Clicks(RealBoxTest):
 
     def test_a_page_that_is_still_open_takes_no_new_link(self):
         """It shows the options in the order of before."""
-        self.visit(self.host.at, PLACES["ada"])
+        self.visit(self.host)
         # the call was taken back, and made anew with the options in another order
         poll = replace(POLL, options=POLL.options[::-1], ratios=POLL.ratios[::-1])
         call, own = replace(CALL, questions=alone(poll)), "k3456789aa"
@@ -314,12 +306,12 @@ class Clicks(RealBoxTest):
         self.choose("1234")
         # the words are those of call/test_box.py
         self.assertEqual(self.sent(), WORDS["old"])
-        self.assertEqual((self.state()["button"], self.lines()), (True, []))
+        self.assertEqual((self.state["button"], self.lines), (True, []))
         # loaded again, it is the one of now
-        self.visit(self.host.at, self.new)
+        self.visit(self.host, self.new)
         self.choose("1234")
         self.demand_arrived()
-        self.assertEqual(self.lines(), ["ada 1,2,3,4"])
+        self.assertEqual(self.lines, ["ada 1,2,3,4"])
 
 
 class Members(RealBoxTest):
@@ -329,7 +321,7 @@ class Members(RealBoxTest):
         super().setUp()
         self.window.resize(360, 640)
         self.addCleanup(self.window.resize, 390, 844)
-        self.visit(self.host.at, PLACES["ada"])
+        self.visit(self.host)
 
     def tap(self, ranks: str):
         """Touches the buttons of these ranks, as a browser notes it that comes back to the page."""
@@ -344,16 +336,16 @@ class Members(RealBoxTest):
         (self.folder / "else.html").write_text("<!doctype html><p>Elsewhere")
         self.tap("1234")
         self.demand_arrived()
-        arrived = self.state()
+        arrived = self.state
         loaded = arrived | {"said": "", "button": True}
         self.go_and_come_back()
-        self.assertIn(self.state(), (arrived, loaded))
+        self.assertIn(self.state, (arrived, loaded))
         # a page that listens for its end is not kept
         self.ask("addEventListener('unload', () => {})")
         self.go_and_come_back()
-        self.assertEqual(self.state(), loaded)
+        self.assertEqual(self.state, loaded)
         self.demand_arrived()
-        self.assertEqual(self.lines(), ["ada 1,2,3,4"] * 2)
+        self.assertEqual(self.lines, ["ada 1,2,3,4"] * 2)
 
     def go_and_come_back(self):
         self.window.tell("Page.navigate", url=f"{self.host.at}else.html")
@@ -377,7 +369,7 @@ class Members(RealBoxTest):
             self.window.tell("Page.setWebLifecycleState", state=state)
 
         with Liar(lie) as between:
-            self.visit(between.at, PLACES["ada"])
+            self.visit(between)
             self.tap("1234")
             become("frozen")
             become("active")
@@ -389,7 +381,7 @@ class Members(RealBoxTest):
             kept.get(timeout=60)
             become("active")
             self.until_arrived()
-        self.assertEqual(self.lines(), ["ada 1,2,3,4"])
+        self.assertEqual(self.lines, ["ada 1,2,3,4"])
 
     def test_a_telephone_without_a_network(self):
         self.tap("1234")
@@ -397,10 +389,10 @@ class Members(RealBoxTest):
         self.window.tell("Network.enable")
         self.window.tell("Network.emulateNetworkConditions", offline=True, **network)
         self.assertEqual(self.sent(), WORDS["unsure"])
-        self.assertEqual((self.state()["fields"], self.lines()), (0, []))
+        self.assertEqual((self.state["fields"], self.lines), (0, []))
         self.window.tell("Network.emulateNetworkConditions", offline=False, **network)
         self.demand_arrived()
-        self.assertEqual((self.state()["fields"], self.lines()), (21, ["ada 1,2,3,4"]))
+        self.assertEqual((self.state["fields"], self.lines), (21, ["ada 1,2,3,4"]))
         self.window.faults.clear()
 
 
@@ -418,7 +410,7 @@ class Answers(BoxPageTest):
     def test_what_is_said_of_each_answer(self):
         answers = queue.SimpleQueue[list[bytes | float]]()
         host = self.serve(lambda request: answers.get(), page_with_box(patience=3_000))
-        self.visit(host.at, PLACES["dan"])
+        self.visit(host, PLACES["dan"])
         other = self.enterContext(Liar(received))
         ranks = map("".join, itertools.product("1234", repeat=4))
         arrived, page = b"received " + NOW + b"\n", b"<!doctype html>"
@@ -452,7 +444,7 @@ class Answers(BoxPageTest):
                 answers.put(sent)
                 self.assertEqual(self.sent(), WORDS[said])
                 fields = 0 if said == "unsure" else 21
-                self.assertEqual(self.state(), before | {"said": WORDS[said], "fields": fields})
+                self.assertEqual(self.state, before | {"said": WORDS[said], "fields": fields})
                 if said == "unsure":
                     # it is sent again, byte for byte, until that is answered
                     first = host.requests[-1]
@@ -471,18 +463,18 @@ class Answers(BoxPageTest):
         policy = "Content-Security-Policy: default-src 'self'"
         page = answered(page_with_box(), 200, "Content-Type: text/html", policy)
         host = self.enterContext(Liar(lambda request: [page]))
-        self.visit(host.at, PLACES["ada"])
+        self.visit(host)
         self.assert_state(unrun=True)
 
     def test_where_the_script_on_the_host_is_gone_after_the_end(self):
         """The form is free, and the same ballot is sent as it was."""
         call = replace(CALL, until=datetime.datetime.fromisoformat(NOW.decode()))
         host = self.serve(lambda request: [answered(b"", 404)], page_with_box(call=call))
-        self.visit(host.at, PLACES["ada"])
+        self.visit(host)
         self.choose("1234")
         for _ in range(2):
             self.assertEqual(self.sent(), WORDS["over"])
-            self.assertEqual(self.state()["fields"], 21)
+            self.assertEqual(self.state["fields"], 21)
         self.assertEqual(*(one for one in host.requests if one.startswith(b"POST")))
 
     def test_nothing_changes_until_the_answer(self):
@@ -493,7 +485,7 @@ class Answers(BoxPageTest):
             yield from received(request)
 
         host = self.serve(lie, page_with_box())
-        self.visit(host.at, PLACES["ada"])
+        self.visit(host)
         self.ask("document.cookie = 'of=another-page'")
         self.choose("1234")
         self.press()
@@ -510,7 +502,7 @@ class Answers(BoxPageTest):
         self.assert_state(line="ben 1,2,3,4", **sending)
         go.put(True)
         self.window.until("!document.getElementById('Vote').disabled")
-        self.assertEqual((self.state()["said"], self.state()["fields"]), ("", 21))
+        self.assertEqual((self.state["said"], self.state["fields"]), ("", 21))
         self.ask(f"location.hash = '{PLACES['ada']}'")
         self.until_arrived()
         [request] = [request for request in host.requests if request.startswith(b"POST")]
@@ -543,7 +535,7 @@ class Answers(BoxPageTest):
         for code, seconds in itertools.product(LANGUAGES, (0, 1)):
             end = now - datetime.timedelta(seconds=seconds)
             host = self.serve(received, page_with_box(code, call=replace(CALL, until=end)))
-            self.visit(host.at, PLACES["ada"])
+            self.visit(host)
             self.choose("1234")
             for width in (320, 360, 1280):
                 with self.subTest(code=code, width=width):
@@ -558,7 +550,7 @@ class Answers(BoxPageTest):
                 spoken = self.ask(f"new Date('{time}').toLocaleString('{code}', {how})")
                 said = said.replace(f"{{{name}}}", spoken)
             self.assertEqual(self.sent(), said)
-            self.assertFalse(self.state()["button"])
+            self.assertFalse(self.state["button"])
 
     def test_no_page_without_a_box_has_anything_of_it(self):
         parts = "fetch(", "connect-src", "XMLHttpRequest", "sendBeacon", "vote.php"

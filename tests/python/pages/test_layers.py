@@ -1,6 +1,7 @@
 """What the page of a vote with tellers seals, byte for byte, under node, which has no page."""
 
 import base64
+import itertools
 import json
 import re
 import subprocess
@@ -13,7 +14,7 @@ from debvote_tools.text.rendering import resources
 
 from tests.python.call.test_tellers import FILES, KEY, MARK, OWN, POINTS
 from tests.python.pages.test_page_seals import NODE
-from tests.support import sealing
+from tests.support import sealing, tellers
 from tests.support.web_host import request_of
 
 PLACE = "ada/23456789ab/3raku42w9zgfv5av"
@@ -38,7 +39,7 @@ node("Ballot").dataset = DATA;
 node("Ballot").querySelectorAll = (which) => Array(which.includes(".option") ? OPTIONS : 0).fill({});
 const how = { name: "ECDH", namedCurve: "P-256" };
 crypto.subtle.generateKey = async (_, isTold) => {
-  const own = OWNS.shift() ?? OWNS_LAST;
+  const own = OWNS[1] ? OWNS.shift() : OWNS[0];
   return {
     publicKey: await crypto.subtle.importKey("jwk", { ...own, d: undefined }, how, true, []),
     privateKey: await crypto.subtle.importKey("jwk", own, how, isTold, ["deriveBits"]),
@@ -58,42 +59,39 @@ def own_key(number: int) -> dict[str, str]:
     return {"kty": "EC", "crv": "P-256"} | coded
 
 
-def sealed_under_node(
-    line: str, tellers: str, options: int = 4, owns: tuple[int, ...] = (3, 4, 2)
-) -> dict[str, object]:
-    """What the page sends of a line, and shows of it."""
-    words = WORDS | dict.fromkeys(STATES, "")
+def sealed_under_node(*ballots: tuple[str, str], options: int = 4) -> list[dict[str, object]]:
+    """What the page sends of each line, beside a line that names the tellers, and shows of it."""
     data = {
         "box": "vote.php",
         "until": "",
-        "words": json.dumps(words),
+        "words": json.dumps(WORDS | dict.fromkeys(STATES, "")),
         "mark": MARK,
         "page": page_of(KEY, MARK),
         "seal": sealing.key_pair(KEY, MARK)[0],
     }
-    values = {
-        "PLACE": PLACE,
-        "LINE": line,
-        "DATA": data,
-        "OPTIONS": options,
-        "OWNS": [own_key(number) for number in owns],
-        "OWNS_LAST": own_key(owns[-1]),
-        "TIME": TIME,
-    }
-    constants = "".join(f"const {name} = {json.dumps(value)};\n" for name, value in values.items())
     scripts = resources("debvote_tools.call", "bytes.js", "sealing.js", "layers.js", "box.js")
-    end = """(async () => {
-      await pressed[0]();
-      console.log(JSON.stringify({ bodies, kept, number: node("Number").textContent, href: node("File").href, hidden: node("Numbered").hidden }));
-    })();"""
-    ended = subprocess.run(
-        [str(NODE), "-"],
-        input=f"{constants}{AROUND}{tellers}\n{scripts}{end}".encode(),
-        capture_output=True,
-        timeout=120,
-    )
+    # with one number for all tries, none passes a firewall that refuses the first
+    scripts = scripts.replace("tries = 500", "tries = 2")
+    end = """await pressed[0]();
+      found.push({ bodies, kept, number: node("Number").textContent, href: node("File").href, hidden: node("Numbered").hidden });
+    """
+    runs = ""
+    for line, named in ballots:
+        values = {
+            "PLACE": PLACE,
+            "LINE": line,
+            "DATA": data,
+            "OPTIONS": options,
+            "OWNS": [*map(own_key, (3, 4, 2))],
+            "TIME": TIME,
+        }
+        constants = "".join(f"const {name} = {json.dumps(one)};\n" for name, one in values.items())
+        runs += f"await (async () => {{ {constants}{AROUND}{named}\n{scripts}{end} }})();\n"
+    script = f"(async () => {{ const found = []; {runs} console.log(JSON.stringify(found)); }})();"
+    how = {"input": script.encode(), "capture_output": True, "timeout": 600}
+    ended = subprocess.run([str(NODE), "-"], **how)  # type: ignore[call-overload]
     assert (ended.returncode, ended.stderr) == (0, b""), ended
-    found: dict[str, object] = json.loads(ended.stdout)
+    found: list[dict[str, object]] = json.loads(ended.stdout)
     return found
 
 
@@ -101,8 +99,8 @@ def sealed_under_node(
 class Layers(unittest.TestCase):
     def test_the_vectors(self):
         # ranks that are no normal form say the same order
-        for ranks in ("2,1,3,-", "12,7,32,-"):
-            found = sealed_under_node(f"ada {ranks}", script_line(POINTS))
+        line = script_line(POINTS)
+        for found in sealed_under_node(("ada 2,1,3,-", line), ("ada 12,7,32,-", line)):
             head = f"box={page_of(KEY, MARK)} {sealing.proof_of(MARK, PLACE)} {NUMBER}"
             body = request_of(head, FILES["record"].strip()).decode()
             self.assertEqual(found["bodies"], [body])
@@ -114,34 +112,28 @@ class Layers(unittest.TestCase):
             )
 
     def test_all_numbers_of_options_and_tellers_have_one_length(self):
-        from tests.support import tellers
-
-        for count in (2, 3):
+        for count, options in itertools.product((2, 3), (2, 33)):
             line = script_line(tellers.points(count))
-            for options in (2, 33):
-                lengths = set[int]()
-                for rank in ("-", "32"):
-                    text = f"ada {','.join([rank] * (options - 1) + ['1'])}"
-                    found = sealed_under_node(text, line, options, (3, 4, 5, 2)[4 - count - 2 :])
-                    [body] = found["bodies"]  # type: ignore[misc]
-                    self.assertNotIn("=", str(body).partition("\n")[2])
-                    lengths.add(len(str(body)))
-                self.assertEqual(len(lengths), 1, (count, options))
+            texts = [f"ada {','.join([rank] * (options - 1) + ['1'])}" for rank in ("-", "32")]
+            found = sealed_under_node(*((text, line) for text in texts), options=options)
+            [one], [other] = (sent["bodies"] for sent in found)  # type: ignore[misc]
+            self.assertNotIn("=", one.partition("\n")[2] + other.partition("\n")[2])
+            self.assertEqual(len(one), len(other), (count, options))
 
     def test_by_another_line_nothing_is_sealed(self):
         line = script_line(POINTS)
         names = re.findall(r"[a-z]+ [\w-]{87}", line)
-        for other in (
+        others = (
             "",
             f'const TELLERS = "{names[0]}";',
             f'const TELLERS = "{" ".join([*names, *names])}";',
             line.replace("carla ", "Carla "),
             line.replace('";', ' ";'),
+            line.replace('";', ' x";'),
             line.replace("carla B", "carla A"),
-        ):
-            found = sealed_under_node("ada 2,1,3,-", other)
-            self.assertEqual(found["bodies"], [], other)
-
-
-if __name__ == "__main__":
-    unittest.main()
+        )
+        sent = [
+            found["bodies"]
+            for found in sealed_under_node(*(("ada 2,1,3,-", one) for one in others))
+        ]
+        self.assertEqual(sent, [[]] * len(others))

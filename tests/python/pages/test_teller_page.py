@@ -6,6 +6,8 @@ import runpy
 import time
 import unittest
 
+import pytest
+
 from debvote_tools.call import lists
 from debvote_tools.call.call import CallData, call_page
 from debvote_tools.call.sealed_ballots import block_of
@@ -22,9 +24,13 @@ from tests.support.teller_pages import KEEPING, TellerPage, halves, key_file
 
 # nine ballots, and a spoilt slip
 VOTED = "".join(f"m{n} {'paper' if n > 7 else 'click'}\n" for n in range(10))
-FIVE = "".join(f"m{n} click\n" for n in range(5))
 CARLA, DORA = key_file("carla"), key_file("dora")
 END = datetime.datetime(2099, 12, 4, 18, tzinfo=datetime.UTC)
+
+
+def members(number: int) -> str:
+    """So many who have voted by a click."""
+    return "".join(f"m{n} click\n" for n in range(number))
 
 
 def call_of(
@@ -117,7 +123,7 @@ class Opening(PageTest):
     def test_the_vectors(self):
         for step, keys in ((1, [CARLA]), (2, halves("dora"))):
             given = LISTS[:step]
-            said = self.page.opening(given, VOTED, *keys)
+            said = self.page.opening(given, VOTED, keys)
             self.assertEqual(said, "")
             name, text = self.page.saved("List-file")
             self.assertEqual(name, f"list-{step}.txt")
@@ -126,7 +132,7 @@ class Opening(PageTest):
             read = [lists.read_list(f"list-{n}.txt", data) for n, data in enumerate(given)]
             lists.demand_lists([*read, made], POINTS)
             # the same list is another signature, and the same list
-            self.assertEqual(self.page.opening(given, VOTED, *keys), "")
+            self.assertEqual(self.page.opening(given, VOTED, keys), "")
             self.assertEqual(
                 self.page.saved("List-file")[1].rpartition("signed")[0], made.body.decode()
             )
@@ -156,104 +162,43 @@ class Opening(PageTest):
         before = tellers.signed(body.replace(first.digest, "1" * 64), "carla").encode()
         less = tellers.body_of(first, 1, [], [*first.ballots[:3]])
         less = tellers.signed(less, "carla")
-        changed = "A checksum is another one"
-        cases = [
-            ("another list 0", [LISTS[0]], VOTED, [CARLA], {"checksums": ("0" * 64, "")}, changed),
-            (
-                "half a checksum",
-                [LISTS[0]],
-                VOTED,
-                [CARLA],
-                {"checksums": (tellers.sha256(LISTS[0])[:32], "")},
-                changed,
-            ),
-            (
-                "another voted.txt",
-                [LISTS[0]],
-                VOTED,
-                [CARLA],
-                {"checksums": ("", "0" * 64)},
-                changed,
-            ),
-            ("a newer letter", [LISTS[0]], VOTED, [CARLA], {"is_newest": False}, "First ask"),
-            ("a missing list", [LISTS[1]], VOTED, [CARLA], {}, "Choose all files."),
-            (
-                "not the turn",
-                [LISTS[0]],
-                VOTED,
-                [DORA],
-                {},
-                "It is not the turn of this key. Next is: carla",
-            ),
-            (
-                "turn of nobody",
-                LISTS,
-                VOTED,
-                [CARLA],
-                {},
-                "It is not the turn of this key. Next is: -",
-            ),
-            (
-                "another name",
-                [LISTS[0]],
-                VOTED,
-                [CARLA.replace("carla", "anna")],
-                {},
-                "It is not the turn",
-            ),
-            ("no key", [LISTS[0]], VOTED, [], {}, "Choose the key"),
-            ("half a key", [LISTS[0]], VOTED, halves("carla")[:1], {}, "Choose the key"),
-            ("another signature", [LISTS[0], by_dora], VOTED, [DORA], {}, "not signed by carla"),
-            ("a high s", [LISTS[0], high], VOTED, [DORA], {}, "not signed by carla"),
-            ("another mark", [LISTS[0], other_mark], VOTED, [DORA], {}, "Choose all files."),
-            (
-                "another list before",
-                [LISTS[0], before],
-                VOTED,
-                [DORA],
-                {},
-                "carla was given another list-0.txt than this: the secretary and carla",
-            ),
-            ("fewer", [LISTS[0], less.encode()], VOTED, [DORA], {}, "another number of ballots"),
-            ("few", [few], "".join(f"m{n} click\n" for n in range(4)), [CARLA], {}, "fewer than 5"),
-            ("few after opening", [five], FIVE, [CARLA], {}, "fewer than 5"),
-            (
-                "too few members",
-                [LISTS[0]],
-                "".join(f"m{n} click\n" for n in range(8)),
-                [CARLA],
-                {},
-                "voted.txt has another number",
-            ),
-            (
-                "too many clicks",
-                [LISTS[0]],
-                VOTED.replace("paper", "click"),
-                [CARLA],
-                {},
-                "voted.txt has another number",
-            ),
-            (
-                "unsorted members",
-                [LISTS[0]],
-                "b click\na click\n" * 5,
-                [CARLA],
-                {},
-                "A file is none of these",
-            ),
-            (
-                "CRLF",
-                [LISTS[0].replace(b"\n", b"\r\n")],
-                VOTED,
-                [CARLA],
-                {},
-                "A file is none of these",
-            ),
-        ]
-        for name, given, voted, keys, how, words in cases:
+        changed, missing = "A checksum is another one", "Choose all files."
+        unread = "A file is none of these"
+        turn = "It is not the turn of this key. Next is: "
+        number = "voted.txt has another number"
+        # what is said of the first list, the members and the key of Carla, but for this
+        cases = {
+            "another list 0": (changed, {"checksums": ("0" * 64, "")}),
+            "half a checksum": (changed, {"checksums": (tellers.sha256(LISTS[0])[:32], "")}),
+            "another voted.txt": (changed, {"checksums": ("", "0" * 64)}),
+            "a newer letter": ("First ask", {"is_newest": False}),
+            "a missing list": (missing, {"lists": [LISTS[1]]}),
+            "not the turn": (f"{turn}carla", {"keys": [DORA]}),
+            "turn of nobody": (f"{turn}-", {"lists": [*LISTS]}),
+            "another name": (turn, {"keys": [CARLA.replace("carla", "anna")]}),
+            "no key": ("Choose the key", {"keys": []}),
+            "half a key": ("Choose the key", {"keys": halves("carla")[:1]}),
+            "few": ("fewer than 5", {"lists": [few], "voted": members(4)}),
+            "few after opening": ("fewer than 5", {"lists": [five], "voted": members(5)}),
+            "too few members": (number, {"voted": members(8)}),
+            "too many clicks": (number, {"voted": VOTED.replace("paper", "click")}),
+            "unsorted members": (unread, {"voted": "b click\na click\n" * 5}),
+            "CRLF": (unread, {"lists": [LISTS[0].replace(b"\n", b"\r\n")]}),
+        }
+        unsigned = "not signed by carla"
+        given = "carla was given another list-0.txt than this: the secretary and carla"
+        for name, words, second in (
+            ("another signature", unsigned, by_dora),
+            ("a high s", unsigned, high),
+            ("another mark", missing, other_mark),
+            ("another list before", given, before),
+            ("fewer", "another number of ballots", less.encode()),
+        ):
+            cases[name] = (words, {"lists": [LISTS[0], second], "keys": [DORA]})
+        for name, (words, how) in cases.items():
             with self.subTest(name):
-                said = self.page.opening([*given], voted, *keys, **how)
-                self.assertIn(words, said)
+                usual = {"lists": [LISTS[0]], "voted": VOTED, "keys": [CARLA]}
+                self.assertIn(words, self.page.opening(**usual | how))
                 self.assertTrue(self.page.window.ask("document.getElementById('Done').hidden"))
 
     def test_each_line_out_doubled_or_exchanged(self):
@@ -267,13 +212,15 @@ class Opening(PageTest):
                 ):
                     if other != lines:
                         text = "".join(f"{line}\n" for line in other).encode()
-                        said = self.page.opening([*LISTS[:step], text], VOTED, key_file(name))
+                        said = self.page.opening([*LISTS[:step], text], VOTED, [key_file(name)])
                         self.assertNotEqual(said, "", (step, at))
 
     def test_a_second_list_by_one_key(self):
-        self.assertEqual(self.page.opening([LISTS[0]], VOTED, CARLA), "")
+        self.assertEqual(self.page.opening([LISTS[0]], VOTED, [CARLA]), "")
         other = LISTS[0].replace(b"title Who", b"title Whoever")
-        self.assertIn("This key has opened another list", self.page.opening([other], VOTED, CARLA))
+        self.assertIn(
+            "This key has opened another list", self.page.opening([other], VOTED, [CARLA])
+        )
 
     def test_ones_own_ballot(self):
         self.assertEqual(
@@ -307,6 +254,7 @@ class Opening(PageTest):
         if rows[1].split(" ")[1] not in [*first.ballots][:8]:
             self.assertIn("The ballot is not in list-0.txt", self.page.find(OWN, without))
 
+    @pytest.mark.whole
     def test_a_thousand_ballots(self):
         points = [*POINTS.values()]
         blocks = [
@@ -318,7 +266,7 @@ class Opening(PageTest):
         given = [data]
         for step, key in ((1, CARLA), (2, DORA)):
             begin = time.monotonic()
-            self.assertEqual(self.page.opening(given, voted, key), "")
+            self.assertEqual(self.page.opening(given, voted, [key]), "")
             self.assertLess(time.monotonic() - begin, 3 * at_browser_slowness())
             given.append(self.page.saved("List-file")[1].encode())
         last = lists.read_list("list-2.txt", given[-1])
@@ -354,48 +302,46 @@ class Looking(PageTest):
         self.assertEqual(shown[5:7], ["carla bf6e-3480-d3f0-5753", "dora e843-5051-d2bd-ab7e"])
         self.assertEqual(shown[7], f"SHA-256: {tellers.sha256(page_of())}")
 
-    def test_the_tags_are_those_of_all_kinds_of_pages(self):
-        """docs/make-teller --tags collects them anew."""
-        made = runpy.run_path(str(ROOT / "docs/make-teller"))
-        tags = set[str]().union(*(tags_in(call_page(call).decode()) for call in made["calls"]()))
-        self.assertEqual(tags, {*TAGS.read_text().split()})
-
     def test_a_changed_page(self):
         page = page_of().decode()
         line = re.findall(r"<script>const TELLERS.*?</script>\n", page)[0]
         digests = re.findall(r"script-src ('sha256-[^']*') ('sha256-[^']*')", page)[0]
         emil = tellers.points(3)["emil"]
         others = call_of(tellers={"carla": POINTS["carla"], "emil": emil})
-        end = page.index("</head>")
-        cases = {
-            "the line out": page.replace(line, ""),
-            "its digest out": page.replace(f"{digests[0]} ", ""),
-            "both out": page.replace(line, "").replace(f"{digests[0]} ", ""),
-            "the line twice": page.replace(line, line * 2),
-            "the line behind the script": page.replace(line, "").replace(
-                "</body>", f"{line}</body>"
+        without = page.replace(line, "")
+        changes = {
+            "the line out": (line, ""),
+            "its digest out": (f"{digests[0]} ", ""),
+            "the line twice": (line, line * 2),
+            "the digest of the script out": (f" {digests[1]}", ""),
+            "a digest more": (digests[1], f"{digests[1]} 'sha256-{'A' * 43}='"),
+            "a digest twice": ("<h1", f'<h1 title="{digests[1]}"'),
+            "a refresh": (
+                "</head>",
+                '<meta http-equiv="refresh" content="0; url=https://other.example/">\n</head>',
             ),
-            "the digest of the script out": page.replace(f" {digests[1]}", ""),
-            "a digest more": page.replace(digests[1], f"{digests[1]} 'sha256-{'A' * 43}='"),
-            "a digest twice": page.replace("<h1", f'<h1 title="{digests[1]}"', 1),
-            "a refresh": f'{page[:end]}<meta http-equiv="refresh" content="0; url=https://other.example/">\n{page[end:]}',
-            "another box": page.replace('data-box="vote.php"', 'data-box="vote2.php"'),
-            "a frame": page.replace("<main>", '<main><iframe src="x"></iframe>'),
-            "a link": page.replace("<main>", '<main><a href="https://other.example/">'),
-            "a script more": page.replace("</body>", "<script>1</script></body>"),
-            "another script": page.replace("</body>", "").replace("const FORM", "const FORMS", 1),
-            "another style": page.replace("body {", "main {", 1),
-            "a half tag": page.replace("</main>", "</main><img "),
-            "a control": page.replace("Where", "Wh\x0cere", 1),
-            "a tab": page.replace("<main>", "<main\t>"),
-            "a handler": page.replace('<div id="Ballot"', '<div id="Ballot" onclick="1"'),
-            "a quote in a value": page.replace('data-mark="', 'data-mark="" onclick="', 1),
-            "another policy": page.replace("form-action 'none'", "form-action *"),
+            "another box": ('data-box="vote.php"', 'data-box="vote2.php"'),
+            "a frame": ("<main>", '<main><iframe src="x"></iframe>'),
+            "a link": ("<main>", '<main><a href="https://other.example/">'),
+            "a script more": ("</body>", "<script>1</script></body>"),
+            "another script": ("const FORM", "const FORMS"),
+            "another style": ("body {", "main {"),
+            "a half tag": ("</main>", "</main><img "),
+            "a control": ("Where", "Wh\x0cere"),
+            "a tab": ("<main>", "<main\t>"),
+            "a handler": ('<div id="Ballot"', '<div id="Ballot" onclick="1"'),
+            "a quote in a value": ('data-mark="', 'data-mark="" onclick="'),
+            "another policy": ("form-action 'none'", "form-action *"),
+            "as chromium saves a complete page": (
+                "<html",
+                "<!-- saved from url=(0027)https://club.example/vote/ -->\n<html",
+            ),
+        }
+        cases = {name: page.replace(*change, 1) for name, change in changes.items()} | {
+            "both out": without.replace(f"{digests[0]} ", ""),
+            "the line behind the script": without.replace("</body>", f"{line}</body>"),
             "no tellers": call_page(call_of(tellers={})).decode(),
             "before all": f"<!-- -->{page}",
-            "as chromium saves a complete page": page.replace(
-                "<html", "<!-- saved from url=(0027)https://club.example/vote/ -->\n<html"
-            ),
             "with a mark of bytes": f"\ufeff{page}",
         }
         for name, text in cases.items():
@@ -411,22 +357,29 @@ class Looking(PageTest):
         latin = page.encode().replace(b"Where", b"Wh\xffre", 1)
         self.assertIn("save it once more, as HTML only", self.page.look(latin, DORA))
 
+
+class WithoutBrowser(unittest.TestCase):
+    @pytest.mark.whole
+    def test_the_tags_are_those_of_all_kinds_of_pages(self):
+        """docs/make-teller --tags collects them anew."""
+        made = runpy.run_path(str(ROOT / "docs/make-teller"))
+        tags = set[str]().union(*(tags_in(call_page(call).decode()) for call in made["calls"]()))
+        self.assertEqual(tags, {*TAGS.read_text().split()})
+
     def test_each_language_is_short_enough(self):
         for code in LANGUAGES:
             self.assertLessEqual(len(teller_page(language_of(code))), 30_000, code)
 
 
+@pytest.mark.whole
 @in_firefox.NEEDS_FIREFOX
 class OpeningInFirefox(Opening):
     def window(self) -> at_browser.Window:
         return in_firefox.Window(800, 800)
 
 
+@pytest.mark.whole
 @in_firefox.NEEDS_FIREFOX
 class LookingInFirefox(Looking):
     def window(self) -> at_browser.Window:
         return in_firefox.Window(800, 800)
-
-
-if __name__ == "__main__":
-    unittest.main()

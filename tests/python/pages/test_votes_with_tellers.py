@@ -2,11 +2,11 @@
 
 import re
 import subprocess
-import unittest
 import urllib.parse
 
+import pytest
 
-from tests.support import at_browser, boxes, in_firefox, teller_elections, tellers
+from tests.support import at_browser, boxes, in_firefox, teller_elections
 from tests.support.at_browser import NEEDS_BROWSER
 from tests.support.in_firefox import NEEDS_FIREFOX
 from tests.support.teller_elections import RANKS
@@ -34,8 +34,8 @@ class Clicks(teller_elections.TellerElectionTest):
 
     def called(self) -> dict[str, str]:
         self.call()
-        self.done("add", "--box")
-        self.done("letters", "call")
+        self.done("add --box")
+        self.done("letters call")
         texts = self.texts("call")
         self.assertIn("carla bf6e-3480-d3f0-5753, dora e843-5051-d2bd-ab7e", texts["ada"])
         return {
@@ -76,9 +76,7 @@ class Clicks(teller_elections.TellerElectionTest):
             page = TellerPage(window)
             page.open()
             for step, keys in ((1, [key_file("carla")]), (2, halves("dora"))):
-                self.assertEqual(
-                    page.opening(given, self.read("urn/voted.txt").decode(), *keys), ""
-                )
+                self.assertEqual(page.opening(given, self.read("urn/voted.txt").decode(), keys), "")
                 self.assertIn("ada, ben, cleo, dan, eve", " ".join(page.lines("Shown")))
                 name, text = page.saved("List-file")
                 (self.scratch / name).write_text(text)
@@ -93,7 +91,7 @@ class Clicks(teller_elections.TellerElectionTest):
             self.assertEqual(window.faults, [])
         self.assertEqual(self.ballots(), sorted(map(self.normal, RANKS)))
         self.told("count")
-        self.told("publish", "--yes")
+        self.told("publish --yes")
         result = self.folder / "result"
         (result / "mine.txt").write_text(files["ada"])
         ended = subprocess.run(
@@ -139,38 +137,21 @@ class Clicks(teller_elections.TellerElectionTest):
             lengths = {len(record) for record in self.records()}
             self.assertEqual(len(lengths), 1)
 
-    def test_nothing_is_sealed_to_others(self):
+    @pytest.mark.whole
+    def test_by_a_line_that_the_policy_does_not_name_nothing_is_sealed(self):
         links = self.called()
-        page = (self.web / "index.html").read_text()
-        line = re.findall(r"const TELLERS = .*?;(?=</script>)", page)[0]
-        from debvote_tools.text.rendering import checksum_source
-
-        carla = tellers.tellers_file(2).splitlines()[0]
-        others = {
-            "a line that the policy does not name": line.replace("carla", "clara"),
-            "one teller": f'const TELLERS = "{carla}";',
-            "five parts": line.replace('";', ' x";'),
-            "a point off the curve": line.replace("carla B", "carla A"),
-            "no line": "",
-        }
-        for what, other in others.items():
-            with self.subTest(what), self.new_window() as window:
-                changed = page.replace(line, other)
-                if what != "a line that the policy does not name":
-                    changed = changed.replace(checksum_source(line), checksum_source(other))
-                (self.web / "index.html").write_text(changed)
-                self.visit(window, links["ada"])
-                window.ballot(None, ["1", "2", "3", "4"])
-                said = boxes.press(window)
-                self.assertEqual(
-                    said, "This browser can't seal a ballot. Open the link in another one."
-                )
-                self.assertFalse(self.host_has_records())
-
-    def host_has_records(self) -> bool:
-        return any(file.read_bytes().count(b"From box@") for file in self.web.glob("box-*.php"))
+        page = self.web / "index.html"
+        line = re.findall(r"const TELLERS = .*?;(?=</script>)", page.read_text())[0]
+        page.write_text(page.read_text().replace(line, line.replace("carla", "clara")))
+        with self.new_window() as window:
+            self.visit(window, links["ada"])
+            window.ballot(None, ["1", "2", "3", "4"])
+            said = boxes.press(window)
+        self.assertEqual(said, "This browser can't seal a ballot. Open the link in another one.")
+        self.assertEqual(self.records(), [])
 
 
+@pytest.mark.whole
 @NEEDS_FIREFOX
 class ClicksInFirefox(Clicks):
     def new_window(self) -> at_browser.Window:
@@ -180,7 +161,3 @@ class ClicksInFirefox(Clicks):
         assert isinstance(window, in_firefox.Window)
         window.open_address("about:blank")
         window.open_address(address)
-
-
-if __name__ == "__main__":
-    unittest.main()

@@ -12,6 +12,8 @@ import json
 import pathlib
 import re
 
+import pytest
+
 from tests.support import languages
 from tests.support.languages import BALLOTS, BEGIN, END_MARK, MARKED, POLL
 
@@ -169,6 +171,7 @@ class Marked(languages.LanguageTest):
             self.program("debvote-publish", *files, *words, name, status=status)
             self.check_files(self.scratch / name, "index.html", "letter.txt")
 
+    @pytest.mark.whole
     def test_casting_votes(self):
         poll = POLL.replace("[1, 1, 3]", "[1, 1, 1]").replace("quorum = 1", "quorum = 0")
         place = self.begun("cast", "de", poll=poll)
@@ -185,6 +188,7 @@ class Marked(languages.LanguageTest):
         self.assertIn('class="doubts"', page)
         self.check_messages(place, "closed", "result")
 
+    @pytest.mark.whole
     def test_doubts(self):
         bad = "e01 1,2,3,4\n" + "bad\n" * 3
         for name, codes, ballots in (

@@ -65,20 +65,8 @@ class Options(unittest.TestCase):
             self.assertEqual(plain_options(names, language), wanted)
 
     def test_capitals(self):
-        names = ["ÄRZTE", "Ärzte", "GRÖ", "Ö", "GROẞ", "ŁÓDŹ", "ÆON", "Æon", "Œuvre", "Þing", "Øl"]
-        wanted = [
-            "AERZTE",
-            "Aerzte",
-            "GROE",
-            "Oe",
-            "GROSS",
-            "LODZ",
-            "AEON",
-            "Aeon",
-            "Oeuvre",
-            "Thing",
-            "Ol",
-        ]
+        names = "ÄRZTE Ärzte GRÖ Ö GROẞ ŁÓDŹ ÆON Æon Œuvre Þing Øl".split()
+        wanted = "AERZTE Aerzte GROE Oe GROSS LODZ AEON Aeon Oeuvre Thing Ol".split()
         self.assertEqual([plain_options([name], "de")[0] for name in names], wanted)
 
     def test_they_are_always_what_debvote_takes(self):
@@ -162,39 +150,19 @@ class Electors(unittest.TestCase):
             self.assertEqual(elector_name(who, "en"), name, who)
 
     def test_titles_are_left_out(self):
-        for title in (
-            "Dr.",
-            "Dr",
-            "DR.",
-            "Dr.-Ing.",
-            "Prof. Dr. med. dent.",
-            "Univ.-Prof. Mag.",
-            "Dipl.-Ing. (FH)",
-            "Dipl. Ing.",
-            "Dr. h. c. mult.",
-            "Mag.a",
-            "Dr.in",
-        ):
-            self.assertEqual(elector_name(f"{title} Anna Weiß", "de"), "anna-weiss", title)
-        for title in ("PhD", "Ph.D.", "M. Sc., MBA", "LL.M.", "B.Sc."):
-            self.assertEqual(elector_name(f"Anna Weiß, {title}", "de"), "anna-weiss", title)
-        for title in (
-            "Frau",
-            "Herr",
-            "Herrn",
-            "Frau Prof. Dr.",
-            "Mr.",
-            "Mr",
-            "Mrs.",
-            "Ms",
-            "Mme",
-            "MME",
-            "Sr.",
-            "Sra.",
-            "Sra",
-        ):
-            self.assertEqual(elector_name(f"{title} Anna Weiß", "de"), "anna-weiss", title)
-            self.assertEqual(elector_name(f"Weiß, {title} Anna", "de"), "anna-weiss", title)
+        def demand(text: str, titles: str):
+            for title in titles.split("|"):
+                who = text.format(title)
+                self.assertEqual(elector_name(who, "de"), "anna-weiss", who)
+
+        before = (
+            "Dr.|Dr|DR.|Dr.-Ing.|Prof. Dr. med. dent.|Univ.-Prof. Mag.|Dipl.-Ing. (FH)|Dipl. Ing."
+        )
+        demand("{} Anna Weiß", f"{before}|Dr. h. c. mult.|Mag.a|Dr.in")
+        demand("Anna Weiß, {}", "PhD|Ph.D.|M. Sc., MBA|LL.M.|B.Sc.")
+        of_people = "Frau|Herr|Herrn|Frau Prof. Dr.|Mr.|Mr|Mrs.|Ms|Mme|MME|Sr.|Sra.|Sra"
+        demand("{} Anna Weiß", of_people)
+        demand("Weiß, {} Anna", of_people)
         for who, name in {
             "Anna Herr": "anna-herr",
             "Herr, Anna": "anna-herr",

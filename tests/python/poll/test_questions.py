@@ -144,5 +144,6 @@ class Aliases(unittest.TestCase):
         call = dataclasses.replace(call_examples.SECRET, at=None, questions=SEVERAL)
         page = slips(call, self.electors).decode()
         self.assertIn("<code>ada<br>A _,_<br>B _,_,_,_<br>C _,_</code>", page)
+        self.assertIn("Question A: <bdi>Raise the fee</bdi>", page)
         rows = codes_csv(call, self.electors).decode().splitlines()
         self.assertEqual(rows[:2], ["name,who,mail,code,mark", f"ada,Ada,,{'a' * 32},"])

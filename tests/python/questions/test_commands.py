@@ -1,15 +1,12 @@
 """What the secretary types and reads where several questions are asked: a desk, letters that wait, what `undo` and `strike` take away, and receipts."""
 
-import email
-import json
 import re
 
+from tests.support.election_books import text_in
 from tests.support.letters import TEN, letter
 from tests.support.outgoing import parsed
-from tests.support.questions import QuestionsTest
+from tests.support.questions import FORCED, QuestionsTest
 from tests.support.terminal import Terminal
-
-FORCED = ("--force", "not-tied", "--force", "voted-since")
 
 YES, NO = (
     "A (Raise the fee to 72 Euro): Yes, 72 Euro, then No, as it is",
@@ -59,7 +56,7 @@ class Desk(QuestionsTest):
             "enter\n3 counted  ben\n4 bad rank count  ben A 1,2,3\nBallot: ",
         )
         # a part of a name is completed, as ever
-        self.assertIn("`cl` was completed to `cleo`\n", desk.after("cl A 1,2\n", ASKED))
+        desk.after("cl A 1,2\n", "`cl` was completed to `cleo`\n", ASKED)
         desk.after("n\n", "Ballot: ")
         desk.type("q\n")
         lines = ["ada A 2,1 C 1,2,3,4", "ada A 1,2 B 1,2,3", "ben B 1,2,3", "ben A 1,2,3"]
@@ -92,87 +89,29 @@ class Desk(QuestionsTest):
             shown,
         )
         self.assertNotIn("new roof", shown)
-        self.assertIn(f"ada:\n  {CHAIR}\n", desk.after("Ada: 1, 2, 3\n", ASKED))
-        self.assertIn("\n1 counted  ada\n", desk.after("y\n", "Ballot: "))
+        desk.after("Ada: 1, 2, 3\n", f"ada:\n  {CHAIR}\n", ASKED)
+        desk.after("y\n", "\n1 counted  ada\n", "Ballot: ")
         self.assertNotIn("motion", shown)
         for other in ("ada A 1,2", "ada A 1,2,3", "ada B 1,2,3"):
-            self.assertIn(f"`{other}` is no ballot: ", desk.after(f"{other}\n", "Ballot: "))
+            desk.after(f"{other}\n", f"`{other}` is no ballot: ", "Ballot: ")
         desk.type("q\n")
-        self.assertEqual(self.lines(), ["ada B 1,2,3"])
+        self.assert_lines("ada B 1,2,3")
         # nobody types a label there, so no words speak of labels that are missing
-        said = self.done(
-            "desk", "--question", "a", given="ben 1\nben\nben A yes\nben A 1,2\n"
-        ).output
-        self.assertIn(
-            "`ben` is no ballot: a ballot here is a name and its ranks, without a label; it was not entered.\n",
-            said,
+        form = "is no ballot: a ballot here is a name and its ranks, without a label; it was not entered.\n"
+        said = self.tells(
+            "desk --question a",
+            f"`ben` {form}",
+            f"`ben A 1,2` {form}",
+            "A ballot line of this poll: `ada 2,1`: the ranks of 1 ",
+            given="ben 1\nben\nben A yes\nben A 1,2\n",
         )
-        self.assertIn(
-            "`ben A 1,2` is no ballot: a ballot here is a name and its ranks, without a label; it was not entered.\n",
-            said,
-        )
-        self.assertIn("A ballot line of this poll: `ada 2,1`: the ranks of 1 ", said)
         self.assertNotIn("its label", said)
         for label in ("D", "AB"):
-            self.assert_refused(
-                ["desk", "--question", label],
-                2,
-                "--question: the labels are A, B, C; nothing was entered: ",
-            )
+            said = "--question: the labels are A, B, C; nothing was entered: "
+            self.assert_refused(f"desk --question {label}", 2, said)
 
 
 class Held(QuestionsTest):
-    def test_a_ballot_of_which_some_answers_have_a_later_one(self):
-        """It is never entered whole, also by force: the line to type is named. Where all have one, by letter it is passed over, and else it needs force."""
-        self.add(
-            letter("ada", "ada A 1,2\n", number=1, time=at(11)),
-            letter("ben", "ben A 2,1 B 3,2,1\n", number=2, time=at(11)),
-        )
-        self.add(
-            letter("ada", "ada A 2,1 B 1,2,3\n", number=3, time=at(9)),
-            letter("ben", "ben A 1,2\n", number=4, time=at(9)),
-        )
-        self.add_lines("cleo A 1,2")
-        self.add(letter("cleo", "cleo A 2,1\n", number=5, time=at(9)))
-        self.assertRegex(
-            self.told("held"),
-            r"(?m)was entered already; has voted since\n +line 1: ada A 2,1 B 1,2,3\n",
-        )
-        for how in (
-            ["--enter"],
-            ["--enter", *FORCED],
-            ["--as", "ada A 2,1 B 1,2,3"],
-            ["--as", "ada A 1,2 B 1,2,3", *FORCED],
-        ):
-            said = "letter 3: its elector has later answers to A; nothing was changed: enter the others: debvote-election held 3 --as 'ada B 1,2,3'"
-            self.assert_refused(["held", "3", *how, "--yes"], 9, said)
-        self.assertRegex(
-            self.told("held", "3", "--as", "ada B 1,2,3", "--yes"),
-            r": ada:\n  B \((?s:.*)\n4 counted  ada\n",
-        )
-        self.assert_refused(
-            ["held", "5", "--enter", "--yes"],
-            9,
-            "letter 5: its elector has voted since; nothing was changed: if this ballot must count, repeat it with --force",
-        )
-        self.assertIn("\n5 replaced  cleo\n", self.told("held", "5", "--enter", *FORCED, "--yes"))
-        self.assertEqual(self.numbers()["waiting"], 0)
-        self.done("held", "4", "--wait")
-        typed = ["held", "4", "--as", "ben B 1,2,3", "--yes"]
-        self.assert_refused(typed, 9, "letter 4: its elector has voted since")
-        self.assertIn("\n6 replaced  ben\n", self.told(*typed, *FORCED))
-        self.assertEqual(
-            self.lines(),
-            [
-                "ada A 1,2",
-                "ben A 2,1 B 3,2,1",
-                "cleo A 1,2",
-                "ada B 1,2,3",
-                "cleo A 2,1",
-                "ben B 1,2,3",
-            ],
-        )
-
     def test_a_letter_is_dealt_with_as_a_whole(self):
         """By --enter, if all its ballots say the same, or by --as: then it waits no more. An answer that is left is typed, and one that was entered never again."""
         self.add(
@@ -180,72 +119,17 @@ class Held(QuestionsTest):
             letter("ben", "ben\nA 1,2\n\nI say:\nBen A 1,2\n", time=at(9)),
             letter("cleo", "cleo A 1,2\nB: against\n", time=at(9)),
         )
-        cure = "type the ballot that is meant with --as LINE"
-        self.assert_refused(
-            ["held", "1", "--enter", "--yes"],
-            9,
-            f"letter 1: it has 2 ballots; nothing was changed: {cure}",
-        )
-        self.assert_refused(
-            ["held", "3", "--enter", "--yes"],
-            9,
-            f"letter 3: it has 1 ballot, and other lines that look like answers; nothing was changed: {cure}",
-        )
-        self.assert_refused(
-            ["close", "--early"], 9, "these letters arrived in time, and wait: 1, 2, 3;"
-        )
+        for number, why in ((1, "it has 2 ballots;"), (3, "it has 1 ballot, and other lines")):
+            said = f"letter {number}: {why}"
+            self.assert_refused(f"held {number} --enter --yes", 9, said)
         self.agrees("2 --enter", "\n1 counted  ben\n")
-        self.assert_refused(
-            ["held", "1", "--as", "ada A 1,2", "--as", "ada A 2,1 B 1,2,3", "--yes"],
-            9,
-            "letter 1: 2 of these lines are ballots of ada; nothing was changed: name the one that counts",
-        )
-        self.done("held", "1", "--as", "ada A 1,2", "--yes")
-        self.done("held", "3", "--as", "cleo A 1,2", "--as", "cleo B 3,1,2", "--yes")
-        self.assertEqual(self.numbers()["waiting"], 0)
+        self.done("held 1 --as 'ada A 1,2' --yes")
+        self.done("held 3 --as 'cleo A 1,2' --as 'cleo B 3,1,2' --yes")
+        self.assert_waiting(0)
         again = "letter 1: its ballot of ada was entered; nothing was changed: to enter another one in its place, run debvote-election strike 2 --because TEXT first"
-        self.assert_refused(["held", "1", "--as", "ada A 2,1 B 1,2,3", "--yes"], 9, again)
-        self.done("held", "1", "--as", "ada B 1,2,3", "--yes")
-        # no force is offered for what was entered
-        ended = self.assert_refused(
-            ["held", "1", "--as", "ada A 1,2", "--yes"],
-            9,
-            "letter 1: its ballot of ada was entered; nothing was changed: there is nothing to do",
-        )
-        self.assertEqual(ended.faults.count("\n"), 1)
-        self.assertEqual(
-            self.lines(), ["ben A 1,2", "ada A 1,2", "cleo A 1,2", "cleo B 3,1,2", "ada B 1,2,3"]
-        )
-
-    def test_of_a_couple(self):
-        """Who has no ballot of their letter is told with the command; the other's is entered by force, whenever it is, since the own mark is of one alone."""
-        self.change_roll("ben@club", "ada@club")
-        self.add(letter("ada", "ada\nA 1,2\n\nBen\nA 2,1\nB 1,2,3\n", time=at(9)))
-        both = Terminal(self, "held", "1", "--enter")
-        self.assertIn("ben", both.until("Enter 2 ballots? [y/n] "))
-        both.type("n\n")
-        both.end()
-        command = "has no ballot of letter 1; debvote-election held 1 --as LINE --force not-tied enters one\n"
-        self.assertIn(f"\nben {command}", self.told("held", "1", "--as", "ada A 1,2", "--yes"))
-        self.assertEqual(self.numbers()["waiting"], 0)
-        typed = ["held", "1", "--as", "ben A 2,1 B 1,2,3", "--yes"]
-        self.assert_refused(
-            typed,
-            9,
-            "letter 1: its sender and its subject do not show that it is of ben; nothing was changed: check who sent it; ",
-        )
-        self.assertNotIn("has no ballot of", self.told(*typed, *FORCED))
-        self.assertEqual(self.lines(), ["ada A 1,2", "ben A 2,1 B 1,2,3"])
-
-    def test_who_has_voted_since_answered_the_same_question(self):
-        texts = ("ada A 1,2\nas ever\n", "ada B 1,2,3\nas ever\n")
-        self.add(
-            *(letter("ada", text, number=number, time=at(9)) for number, text in enumerate(texts)),
-            letter("ada", "ada A 2,1\n", number=3, time=at(11)),
-        )
-        shown = self.told("held")
-        self.assertEqual(shown.count("has voted since"), 1)
-        self.assertRegex(shown, r"has voted since\n +line 1: ada A 1,2\n +written: as ever\n")
+        self.assert_refused("held 1 --as 'ada A 2,1 B 1,2,3' --yes", 9, again)
+        self.done("held 1 --as 'ada B 1,2,3' --yes")
+        self.assert_lines("ben A 1,2", "ada A 1,2", "cleo A 1,2", "cleo B 3,1,2", "ada B 1,2,3")
 
     def test_nothing_is_left_out_of_a_letter_whose_time_is_not_known(self):
         """Nobody knows which answer is the later one: it stops, and by force the whole letter is entered."""
@@ -253,43 +137,41 @@ class Held(QuestionsTest):
             letter("ada", "ada A 1,2\n", number=1, time=at(9)),
             letter("ada", "ada A 2,1 B 1,2,3\n", number=2, time=None),
         )
-        self.assertIn("; may have voted since\n", self.told("held"))
-        enter = ["held", "2", "--enter", "--yes"]
+        self.tells("held", "; may have voted since\n")
+        enter = "held 2 --enter --yes"
         self.assert_refused(
             enter, 9, "letter 2: its elector may have voted since, as nobody knows when it arrived"
         )
-        self.told(*enter, *FORCED)
-        self.assertEqual(self.lines(), ["ada A 1,2", "ada A 2,1 B 1,2,3"])
+        self.told(f"{enter} {FORCED}")
+        self.assert_lines("ada A 1,2", "ada A 2,1 B 1,2,3")
 
     def test_a_late_line_is_later_than_no_letter(self):
-        self.done("close", "--early", "--force", "--because", "x", "--yes")
-        self.done("desk", given="ada B 3,2,1\n")
+        self.done("close --early --force --because x --yes")
+        self.cast("ada B 3,2,1")
         self.add(letter("ada", "ada A 1,2 B 1,2,3\n", number=1, time=at(9)))
-        self.assertNotIn("voted since", self.told("held", "1"))
+        self.assertNotIn("voted since", self.told("held 1"))
         self.assert_refused(
-            ["held", "1", "--enter", "--yes"],
+            "held 1 --enter --yes",
             9,
             "letter 1: it arrived in time, and the vote is closed; nothing was changed: if it has a ballot, run debvote-election reopen",
         )
-        self.done("reopen", "--because", "x")
-        self.assertIn(
-            "1 ballot of letters went in; 0 letters wait", self.told("add", "--yes", "inbox.mbox")
-        )
-        self.assertIn("The current ballot: ada A 1,2 B 1,2,3:\n  A (", self.told("show", "ada"))
+        self.done("reopen --because x")
+        self.tells("add --yes inbox.mbox", "1 ballot of letters went in; 0 letters wait")
+        self.tells("show ada", "The current ballot: ada A 1,2 B 1,2,3:\n  A (")
 
     def test_a_late_line_that_would_replace_a_later_answer(self):
         """To the same question: only that needs force."""
-        close = ("close", "--early", "--force", "--because", "x", "--yes")
-        self.done(*close)
-        self.done("desk", given="ada A 1,2\nada B 1,2,3\n")
-        self.done("reopen", "--because", "x")
-        words = ("--came-before-close", "yes")
-        self.add_lines("ada A 2,1", words=words)
+        close = "close --early --force --because x --yes"
+        self.done(close)
+        self.cast("ada A 1,2", "ada B 1,2,3")
+        self.done("reopen --because x")
+        came = "--came-before-close yes"
+        self.adds("ada A 2,1\n", words=f"{came} -")
         said = "desk:1: `ada A 1,2` was late before, and would replace envelope 3, which came in time; it was not entered"
-        self.assertIn(said, self.told("desk", *words, given="ada A 1,2\nada B 1,2,3\n"))
-        self.assertEqual(self.lines(), ["ada A 2,1", "ada B 1,2,3"])
-        self.done("desk", "--force", *words, given="ada A 1,2\n")
-        self.done(*close)
+        self.tells(f"desk {came}", said, given="ada A 1,2\nada B 1,2,3\n")
+        self.assert_lines("ada A 2,1", "ada B 1,2,3")
+        self.done(f"desk --force {came}", given="ada A 1,2\n")
+        self.done(close)
         self.assertEqual(self.last("close")["replaced_in_time"], 1)
 
     def test_what_is_typed_has_the_form_of_a_ballot_and_only_valid_answers(self):
@@ -299,13 +181,10 @@ class Held(QuestionsTest):
             "ada A 1,2 B 1,2": "bad rank count: 2 ranks, the poll has 3 options",
             "ada A 1,2 A 1,2": "bad shape",
         }.items():
-            self.assert_refused(
-                ["held", "1", "--as", typed, "--yes"],
-                9,
-                f"`{typed}` is no ballot of this poll: {why}",
-            )
-        self.done("held", "1", "--as", "Ada: a 1,2", "--yes")
-        self.assertEqual(self.lines(), ["ada A 1,2"])
+            said = f"`{typed}` is no ballot of this poll: {why}"
+            self.assert_refused(f"held 1 --as '{typed}' --yes", 9, said)
+        self.done("held 1 --as 'Ada: a 1,2' --yes")
+        self.assert_lines("ada A 1,2")
 
 
 class Sums(QuestionsTest):
@@ -316,13 +195,13 @@ class Sums(QuestionsTest):
             "more",
             "ada A 2,1 B 1,2,3\ncleo A 1,2,3 B 1,2,3\nben A 1,2 B 2,1,3\nada A 1,2 B 2,1,3 C 1,2,3,4\n",
         )
-        said = self.told("add", "more")
-        self.assertIn("3 A replaced, B counted  ada:\n  A (", said)
         sums = "1 counted, 1 bad rank count, 3 replaced in part: A counted 1, A replaced 2, B counted 1, B replaced 2, C counted 1"
-        self.assertIn(f"Added 5 lines ({sums}).\n", said)
-        self.assertIn(
+        first = "3 A replaced, B counted  ada:\n  A ("
+        self.tells("add more", first, f"Added 5 lines ({sums}).\n")
+        self.tells(
+            "desk",
             "This desk has entered 2 lines (1 counted, 1 replaced in part: A replaced 1, C counted 1).\n",
-            self.told("desk", given="cleo A 1,2\ncleo A 2,1 C 1,2,3,4\n"),
+            given="cleo A 1,2\ncleo A 2,1 C 1,2,3,4\n",
         )
 
 
@@ -330,44 +209,38 @@ class TakenAway(QuestionsTest):
     def test_undo_takes_back_both_envelopes_of_a_line(self):
         self.add_lines("ada A 1,2")
         self.add_lines("ada A 2,1 B 1,2,3 C 1,2")
-        self.assertEqual(self.lines(), ["ada A 1,2", "ada A 2,1 B 1,2,3", "ada C 1,2"])
-        said = self.told("undo", "--yes")
-        self.assertIn("Took back 2 lines (", said)
-        self.assertIn(f"\n  ada, as before:\n    {YES}\n", said)
-        self.assertEqual(self.lines(), ["ada A 1,2"])
-        self.assertIn(f"The current ballot: ada A 1,2:\n  {YES}\n", self.told("show", "ada"))
+        self.assert_lines("ada A 1,2", "ada A 2,1 B 1,2,3", "ada C 1,2")
+        self.tells("undo --yes", "Took back 2 lines (", f"\n  ada, as before:\n    {YES}\n")
+        self.assert_lines("ada A 1,2")
+        self.tells("show ada", f"The current ballot: ada A 1,2:\n  {YES}\n")
 
     def test_a_strike_brings_back_what_it_had_replaced(self):
         self.add_lines("ada A 1,2 B 1,2,3", "ada A 2,1")
-        self.assertIn(f" (A replaced):\n    {YES}\n    {CHAIR}\n", self.told("show", "ada"))
-        said = self.told("strike", "2", "--because", "it was ben's", "--yes")
-        self.assertIn(f"Another ballot of ada counts:\n  {YES}\n  {CHAIR}\n", said)
+        self.tells("show ada", f" (A replaced):\n    {YES}\n    {CHAIR}\n")
+        self.tells(
+            "strike 2 --because 'it was of ben' --yes",
+            f"Another ballot of ada counts:\n  {YES}\n  {CHAIR}\n",
+        )
 
     def test_a_letter_whose_later_answer_is_taken_away_is_judged_anew(self):
         """`strike` and `undo` name it, and the next `add` takes it whole."""
         for number, name in enumerate(("ada", "ben"), start=1):
-            self.done("desk", given=f"{name} B 3,2,1\n")
+            self.cast(f"{name} B 3,2,1")
             self.add(letter(name, f"{name} A 1,2 B 1,2,3\n", number=number, time=at(9)))
-            self.assertEqual(self.numbers()["waiting"], 1)
-            said = self.told(
-                *(["strike", "1", "--because", "x"] if name == "ada" else ["undo"]), "--yes"
-            )
-            self.assertIn(
+            self.assert_waiting(1, number)
+            self.tells(
+                "strike 1 --because x --yes" if name == "ada" else "undo --yes",
                 f"\nletter {number}, from {name}@club.example, 2026-11-23 09:00:00 UTC: it goes in with the next add of letters\n",
-                said,
+                f"  line 1: {name} A 1,2 B 1,2,3\n",
             )
-            self.assertIn(f"  line 1: {name} A 1,2 B 1,2,3\n", said)
-            self.assertIn(
-                "1 ballot of letters went in; 0 letters wait",
-                self.told("add", "--yes", "inbox.mbox"),
-            )
-        self.assertEqual(self.lines(), ["ada A 1,2 B 1,2,3", "ben A 1,2 B 1,2,3"])
+            self.tells("add --yes inbox.mbox", "1 ballot of letters went in; 0 letters wait")
+        self.assert_lines("ada A 1,2 B 1,2,3", "ben A 1,2 B 1,2,3")
 
     def test_what_was_typed_stays_so_after_a_reopen(self):
         """Nothing of the letter's own line is entered beside it or in its place."""
-        self.done("call", "--until", "2026-11-25 09:20", "--zone", "UTC")
+        self.done("call --until '2026-11-25 09:20' --zone UTC")
         self.set_clock("2026-11-25T10:00:00+00:00")
-        self.done("close", "--force", "--because", "x", "--yes")
+        self.done("close --force --because x --yes")
         self.add(
             letter(
                 "ada",
@@ -375,39 +248,35 @@ class TakenAway(QuestionsTest):
                 time="Wed, 25 Nov 2026 09:30:00 +0000",
             )
         )
-        self.done("held", "1", "--as", "ada A 1,2", "--yes")
-        self.done("reopen", "--because", "a slow server")
-        self.assertNotIn("--enter", self.told("undo", "--yes"))
-        self.assert_refused(["held", "1", "--as", "ada A 1"], 9, "is no ballot of this poll")
+        self.done("held 1 --as 'ada A 1,2' --yes")
+        self.done("reopen --because 'a slow server'")
+        self.assertNotIn("--enter", self.told("undo --yes"))
+        self.assert_refused("held 1 --as 'ada A 1'", 9, "is no ballot of this poll")
 
     def test_a_file_that_comes_again(self):
         """What came before is passed over, and of an answer that was replaced since it is told."""
         self.write("first", "ada A 1,2 B 1,2,3\nben C 1,2\n")
-        self.done("add", "--force", "first")
-        self.assertIn(
+        self.done("add --force first")
+        self.tells(
+            "add first",
             "first: 2 lines are ignored, since they came before; 0 are new\nThere is nothing new",
-            self.told("add", "first"),
         )
         self.add_lines("ada B 3,2,1")
-        self.assertIn(
+        self.tells(
+            "add first",
             "first:1: `ada A 1,2 B 1,2,3` came before, and ada has voted since (envelope 3)",
-            self.told("add", "first"),
         )
 
 
 class Told(QuestionsTest):
     def letters(self, kind: str) -> dict[str, str]:
-        self.done("letters", kind)
-        texts = {}
-        for file in sorted((self.folder / "letters" / kind).rglob("*.eml")):
-            data = email.message_from_bytes(file.read_bytes()).get_payload(decode=True)
-            assert isinstance(data, bytes)
-            texts[file.stem] = " ".join(data.decode().split())
-        return texts
+        self.done(f"letters {kind}")
+        files = (self.folder / "letters" / kind).rglob("*.eml")
+        return {file.stem: text_in(file.read_bytes()) for file in files}
 
     def test_our_letter_below_a_ballot_has_no_answer(self):
         """As Outlook quotes it, it is a quotation; with no head above, as a sender may write it, it is looked at."""
-        self.done("letters", "call")
+        self.done("letters call")
         [file] = (self.folder / "letters" / "call").rglob("ada.eml")
         ours = parsed(file.read_bytes())
         for number, (head, lines) in enumerate(
@@ -422,7 +291,7 @@ class Told(QuestionsTest):
     def test_receipts_say_what_of_a_ballot_does_not_count(self):
         self.add_lines("ada A 1,2 B 1,2,3", "ada A 2,1", "ben A 1,2 B 1,2", words=["--force"])
         texts = self.letters("receipts")
-        self.assertEqual(sorted(texts), ["ada", "ben"])
+        self.assertEqual({*texts}, {"ada", "ben"})
         not_all = "These of its answers do not count; others of yours, which were entered after them, count instead: A (Raise the fee to 72 Euro)."
         self.assertIn(
             f"It counts unless you send a later one. {not_all} It was read as: {YES} {CHAIR} ",
@@ -450,7 +319,7 @@ class Told(QuestionsTest):
         self.assertIn(
             "  envelope 4: ben B 1,2\n    bad rank count: 2 ranks, the poll has 3 options\n", said
         )
-        state = json.loads(self.told("status", "--json"))
+        state = self.numbers()
         self.assertEqual(
             [state[key] for key in ("lines", "valid", "refused", "voters")], [4, 3, 1, 2]
         )
@@ -486,27 +355,21 @@ class Many(QuestionsTest):
         self.assertEqual(
             said.splitlines()[:15], [*told, "Each in words: debvote-election show NAME"]
         )
-        self.assertIn(
-            "  A (Raise the fee to 72 Euro): No, as it is, then", self.told("show", "m01")
-        )
+        self.tells("show m01", "  A (Raise the fee to 72 Euro): No, as it is, then")
+
+    def letters(self, answers: str, number: int, **how: str) -> list[bytes]:
+        """A letter of each, with numbers from this one on."""
+        ballots = zip(self.names, self.ballots(f"{answers} B 1,2,3 C 1,2,3,4"))
+        return [
+            letter(name, f"{ballot}\n", number=number + place, **how)
+            for place, (name, ballot) in enumerate(ballots)
+        ]
 
     def test_letters(self):
-        letters = [
-            letter(name, f"{ballot}\n", number=number)
-            for number, (name, ballot) in enumerate(
-                zip(self.names, self.ballots("A 1,2 B 1,2,3 C 1,2,3,4"))
-            )
-        ]
-        said = self.add(*letters[:2])
+        said = self.add(*self.letters("A 1,2", 0)[:2])
         self.assertIn(f"\nm01 (letter 1):\n  {YES}\n  {CHAIR}\n  C (A new roof): Slate", said)
         self.assertIn("\n1 counted  m01\n2 counted  m02\n", said)
-        again = [
-            letter(name, f"{ballot}\n", number=number, time=at(11))
-            for number, (name, ballot) in enumerate(
-                zip(self.names, self.ballots("a: 2, 1 B 1,2,3 C 1,2,3,4")), start=20
-            )
-        ]
-        said = self.add(*again)
+        said = self.add(*self.letters("a: 2, 1", 20, time=at(11)))
         lines = said.splitlines()
         first = lines.index(
             "m01 (letter 3, written `m01 a: 2, 1 B 1,2,3 C 1,2,3,4`): A 2,1 B 1,2,3 C 1,2,3,4"
@@ -523,14 +386,14 @@ class OfAMotion(QuestionsTest):
         desk = Terminal(self, "desk", "--question", "a")
         words = "\nIn place of the ranks of a motion: yes, no, abstain, y, n, a.\n"
         self.assertIn(words, desk.until("Ballot: "))
-        self.assertIn("Euro): No\n", desk.after("ada n\n", ASKED))
+        desk.after("ada n\n", "Euro): No\n", ASKED)
         desk.after("y\n", "Ballot: ")
         desk.ends("q\n")
         desk = Terminal(self)
         self.assertIn(words.replace(", y, n, a", ""), desk.until("Ballot: "))
-        self.assertIn("`ben A n` is no ballot", desk.after("ben A n\n", "Ballot: "))
+        desk.after("ben A n\n", "`ben A n` is no ballot", "Ballot: ")
         desk.ends("q\n")
-        self.assertEqual(self.lines(), ["ada A 2,1"])
+        self.assert_lines("ada A 2,1")
 
 
 class Quorums(QuestionsTest):
@@ -538,7 +401,6 @@ class Quorums(QuestionsTest):
         label: poll.replace("quorum = 1", f"quorum = {int(label != 'B')}")
         for label, poll in QuestionsTest.polls.items()
     }
-    poll = "".join(polls.values())
 
     def test_each_is_told(self):
         found = re.findall(r"(?m)^Question (.).*\n  Quorum: (\w+)", self.told("status"))

@@ -1,19 +1,16 @@
 """Labels that are missing, unknown, twice, small, or part of a name: none is counted wrongly, none is lost in silence. And labels that are exchanged between files."""
 
-import email
 import hashlib
 import pathlib
 import re
 import shutil
 from collections.abc import Callable
-from unittest import mock
 
+from tests.support.election_books import text_in
 from tests.support.elections import any_own
-from tests.support.letters import MARK, TEN, letter
-from tests.support.questions import FEE, QuestionsTest, answering
+from tests.support.letters import MARK, letter
+from tests.support.questions import FEE, FORCED, QuestionsTest
 from tests.support.terminal import Terminal
-
-FORCED = ("--force", "not-tied", "--force", "voted-since")
 
 # who can be taken for a label, or for the name of somebody else with one
 MEMBERS = "name,who,mail\na,A. Adams,a@club.example\nben,Ben,ben@club.example\nben-b,Ben B,benb@club.example\ncleo,Cleo,cleo@club.example\ndan,Dan,dan@club.example\ndc,Dan C.,dc@club.example\n"
@@ -46,55 +43,38 @@ RIGHT_AT_A_TERMINAL = {
     "Adams B 1,2,3 A 2,1": "a A 2,1 B 1,2,3",
     "leo B 1,2,3": "cleo B 1,2,3",
 }
-# lines that are no ballot of this vote, or could be one of two people
-WRONG = [
-    "cleo 1,2",
-    "cleo 1,2,3",
-    "cleo: 1,2,3,4",
-    "a 1,2",
-    "ben-b 1,2,3",  # no question
-    "cleo D 1,2",
-    "cleo A 1,2 D 1,2",
-    "cleo AB 1,2",
-    "cleo I 1,2",  # a question that there is not
-    "cleo A 1,2 A 2,1",
-    "cleo A 1,2 a 1,2",
-    "cleo A 1,2 B 1,2,3 A 1,2",  # twice
-    "cleo A B 1,2",
-    "cleo A 1,2 B",
-    "cleo A 1,2 1,2,3",
-    "cleo 1,2 A",  # a label or ranks too many
-    "A 1,2",
-    "A cleo 1,2",
-    "B 1,2,3 C 1,2,3,4",  # no name in front
-    "Ben B 1,2,3",
-    "ben b 1,2,3",
-    "Dan C 1,2,3,4",
-    "Dan C. 1,2,3,4",  # Ben, who answers B, or Ben B, who forgot the label
-]
-
-
-def of(name: str, text: str, number: int, hour: int = 10) -> bytes:
-    """A letter of an elector, each later than the one before."""
-    subject, address = f"[{MARK}-{any_own(name)}]", f"{name.replace('-', '')}@club.example"
-    return letter(
-        name,
-        f"{text}\n",
-        number=f"{hour}.{number}",
-        sender=address,
-        subject=subject,
-        time=TEN.replace("10:00", f"{hour}:{number:02}"),
-    )
+# lines that are no ballot of this vote, or could be one of two people: without a question; of one
+# that there is not; twice; with a label or ranks too many; with no name in front; and of Ben, who
+# answers B, or of Ben B, who forgot the label
+WRONG = """\
+cleo 1,2
+cleo 1,2,3
+cleo: 1,2,3,4
+a 1,2
+ben-b 1,2,3
+cleo D 1,2
+cleo A 1,2 D 1,2
+cleo AB 1,2
+cleo I 1,2
+cleo A 1,2 A 2,1
+cleo A 1,2 a 1,2
+cleo A 1,2 B 1,2,3 A 1,2
+cleo A B 1,2
+cleo A 1,2 B
+cleo A 1,2 1,2,3
+cleo 1,2 A
+A 1,2
+A cleo 1,2
+B 1,2,3 C 1,2,3,4
+Ben B 1,2,3
+ben b 1,2,3
+Dan C 1,2,3,4
+Dan C. 1,2,3,4
+""".splitlines()
 
 
 class LabelsTest(QuestionsTest):
     members = MEMBERS
-
-    def demand_entered(self, *lines: str):
-        """The book has these lines, and the sheet of each question is that of their parts."""
-        self.assertEqual(self.lines(), list(lines))
-        for label, sheet in self.sheets().items():
-            self.assertEqual(sheet, self.sheet_of(label, answering(label, lines)))
 
 
 class Lines(LabelsTest):
@@ -103,29 +83,28 @@ class Lines(LabelsTest):
         for first in range(0, len(WRONG), 5):
             texts, before = WRONG[first : first + 5], self.last_act()
             self.write("lines", "\n".join(["cleo A 1,2", *texts]))
-            ended = self.election("add", "--yes", "--force", "--because", "so be it", "lines")
+            ended = self.election("add --yes --force --because 'so be it' lines")
             self.assertEqual((ended.status, self.last_act()), (9, before))
             named = re.findall(r"lines:(\d+): ", ended.faults)
             self.assertEqual(named, [str(number + 2) for number in range(len(texts))])
-        self.assertIn("lines:2: ", self.election("add", "lines").faults)
+        self.assertIn("lines:2: ", self.election("add lines").faults)
         self.write("lines", "".join(f"{text}\n" for text in RIGHT))
-        said = self.done("add", "lines").output
+        said = self.done("add lines").output
         for number, (text, entered) in enumerate(RIGHT.items(), start=1):
             if text != entered:
                 self.assertIn(f"lines:{number}: `{text}` was changed to `{entered}`", said)
-        self.demand_entered(*RIGHT.values())
+        self.assert_lines(*RIGHT.values())
 
     def test_at_a_desk(self):
-        said = self.done("desk", given="".join(f"{text}\n" for text in WRONG)).output
-        named = re.findall(r"desk:(\d+): .*it was not entered", said)
+        named = re.findall(r"desk:(\d+): .*it was not entered", self.cast(*WRONG))
         self.assertEqual(named, [str(number) for number in range(1, len(WRONG) + 1)])
-        self.demand_entered()
-        self.done("desk", given="".join(f"{text}\n" for text in RIGHT))
-        self.demand_entered(*RIGHT.values())
+        self.assert_lines()
+        self.cast(*RIGHT)
+        self.assert_lines(*RIGHT.values())
 
     def test_what_status_says_of_a_refused_answer(self):
         """Cleo has a ballot, but none to B; Ben has one to B, too."""
-        self.done("desk", given="cleo A 1,2 B 1\nben B 1,2,3\nben B 1,2,3,4\nzoe C 1\na B 1\n")
+        self.cast("cleo A 1,2 B 1", "ben B 1,2,3", "ben B 1,2,3,4", "zoe C 1", "a B 1")
         its = self.done("status").output.partition("Refused lines of electors without a ballot ")[2]
         found = re.findall(r"envelope \d+: (.*)", its)
         self.assertEqual(
@@ -137,15 +116,10 @@ class Lines(LabelsTest):
         """What may be the last letter of a name, or the label, is neither, for a part of a name, too."""
         desk = Terminal(self)
         desk.until("Ballot: ")
-        for typed in (
-            "Ben B 3,2,1",
-            "ben b 2,1,3",
-            "BEN B: 1,2,3 A 1,2",
-            "en B 1,2,3",
-            "be b 1,2,3",
-            "Adams A 1,2",
-            "ada a 1,2",
-        ):
+        wrong = (
+            "Ben B 3,2,1|ben b 2,1,3|BEN B: 1,2,3 A 1,2|en B 1,2,3|be b 1,2,3|Adams A 1,2|ada a 1,2"
+        )
+        for typed in wrong.split("|"):
             shown = desk.after(f"{typed}\n", "It was not entered.\nBallot: ")
             who = "a" if "a" in typed[:1].lower() else "ben-b"
             self.assertIn(
@@ -156,18 +130,17 @@ class Lines(LabelsTest):
             desk.after(f"{typed}\n", "Enter it? [y/n] ")
             desk.after("y\n", "Ballot: ")
         desk.type("q\n")
-        self.demand_entered(*RIGHT_AT_A_TERMINAL.values())
+        self.assert_lines(*RIGHT_AT_A_TERMINAL.values())
 
     def test_at_a_desk_of_one_question(self):
-        self.done("desk", "--question", "B", given="Ben 1,2,3\nben 3,2,1\nben-b 1,2,3\n")
-        self.demand_entered("ben B 1,2,3", "ben B 3,2,1", "ben-b B 1,2,3")
+        self.done("desk --question B", given="Ben 1,2,3\nben 3,2,1\nben-b 1,2,3\n")
+        self.assert_lines("ben B 1,2,3", "ben B 3,2,1", "ben-b B 1,2,3")
 
     def test_a_line_with_a_refused_answer_is_one_that_came_before(self):
         self.write("first", "cleo A 1,2,3 B 1,2,3\n")
-        self.done("add", "first")
+        self.done("add first")
         self.write("more", "cleo A 1,2,3 B 1,2,3\ndan A 1,2,3 B 1,2,3\n")
-        said = "more: 1 line is ignored, since it came before; 1 is new\n"
-        self.assertIn(said, self.done("add", "more").output)
+        self.tells("add more", "more: 1 line is ignored, since it came before; 1 is new\n")
         detail = {"files": ["more"], "lines": 2, "passed_over": 1}
         self.assertEqual(self.acts()[-1], ("add", detail))
 
@@ -180,11 +153,9 @@ class OneNameOfTwo(QuestionsTest):
     def test_of_several_questions(self):
         unclear = "it has the name of max and max-2"
         self.assertIn(unclear, self.election("add", given="Max A 1,2\n").faults)
-        for words, line in (((), "MAX a: 1,2"), (("--question", "A"), "Max 1,2")):
-            self.assertIn(
-                f"desk:1: {unclear}; it was not entered.",
-                self.done("desk", *words, given=f"{line}\n").output,
-            )
+        said = f"desk:1: {unclear}; it was not entered."
+        for typed, line in (("desk", "MAX a: 1,2\n"), ("desk --question A", "Max 1,2\n")):
+            self.tells(typed, said, given=line)
         # in a letter it is that of whoever has the address alone
         of_max = f"[{MARK}-{any_own('max-2')}]"
         self.add(
@@ -192,30 +163,22 @@ class OneNameOfTwo(QuestionsTest):
             letter("max", "Max A 2,1\n", subject=of_max, number=2),
             letter("cleo", "Max A 1,1\n"),
         )
-        self.assertIn(
-            unclear, self.election("held", "1", "--as", "Max A 1,2", *FORCED, "--yes").faults
-        )
-        self.done("desk", given="max A 1,2\nmax: B 1,2,3\nMaximilian Mayer C 1,2,3,4\n")
-        self.done(
-            "desk", "--question", "B", given="max 2,1,3\nmax-2 1,2,3\nMaximilian Mayer: 3,2,1\n"
-        )
-        self.assertEqual(
-            self.lines(),
-            [
-                "max-2 A 2,1",
-                "max A 1,2",
-                "max B 1,2,3",
-                "max C 1,2,3,4",
-                "max B 2,1,3",
-                "max-2 B 1,2,3",
-                "max B 3,2,1",
-            ],
+        self.refused(f"held 1 --as 'Max A 1,2' {FORCED} --yes", unclear)
+        self.cast("max A 1,2", "max: B 1,2,3", "Maximilian Mayer C 1,2,3,4")
+        self.done("desk --question B", given="max 2,1,3\nmax-2 1,2,3\nMaximilian Mayer: 3,2,1\n")
+        self.assert_lines(
+            "max-2 A 2,1",
+            "max A 1,2",
+            "max B 1,2,3",
+            "max C 1,2,3,4",
+            "max B 2,1,3",
+            "max-2 B 1,2,3",
+            "max B 3,2,1",
         )
 
 
 class Words(LabelsTest):
     polls = {**QuestionsTest.polls, "A": f"{FEE}motion = true\n"}
-    poll = "".join(polls.values())
 
     def test_behind_a_name_that_ends_in_a_letter(self):
         lines = {
@@ -227,61 +190,22 @@ class Words(LabelsTest):
         for command in ("add", "desk"):
             self.done(command, given="".join(f"{line}\n" for line in lines))
         self.add(letter("cleo", "I told you.\n"))
-        self.done("held", "1", "--as", "Ben B A abstain", *FORCED, "--yes")
-        self.demand_entered(*lines.values(), *lines.values(), "ben-b A 1,1")
+        self.done(f"held 1 --as 'Ben B A abstain' {FORCED} --yes")
+        self.assert_lines(*lines.values(), *lines.values(), "ben-b A 1,1")
 
 
 class Letters(LabelsTest):
-    def test_letters(self):
-        """Each waits, and is shown by `held`; what is right goes in, in the order of the letters."""
-        texts = [
-            *WRONG,
-            "cleo\nA 1,2\nand for the roof\nC 1,2,3,4",
-            "cleo\nA 1,2\n-- \nB 1,2,3",
-            "A 1,2\nB 1,2,3",
-            "cleo A 1,2\n\nB 1,2",
-            "cleo\nA 1,2 B",
-            "B 1,2,3\ncleo\nA 1,2",
-        ]
-        senders = {"a": ["a 1,2"], "ben-b": ["ben-b 1,2,3", "Ben B 1,2,3", "ben b 1,2,3"]}
-        sender = {text: name for name, own in senders.items() for text in own}
-        made = [of(sender.get(text, "cleo"), text, number) for number, text in enumerate(texts)]
-        self.assertIn(f"0 ballots of letters went in; {len(made)} letters wait", self.add(*made))
-        self.demand_entered()
-        held = self.done("held").output
-        for number in range(1, len(made) + 1):
-            self.assertRegex(held, rf"(?m)^ +{number}  ")
-        self.assertEqual(self.numbers()["waiting"], len(made))
-        right = [
-            of(entered.partition(" ")[0], text, number, hour=11)
-            for number, (text, entered) in enumerate(RIGHT.items())
-        ]
-        self.assertIn(f"{len(right)} ballots of letters went in", self.add(*right))
-        self.demand_entered(*RIGHT.values())
-
     def test_as(self):
         self.add(letter("cleo", "I am for the slate.\n"))
         # without a name it is of whose mark the letter has
         for text in (one for one in WRONG[::6] if not re.match(r"[A-D] ", one)):
-            ended = self.election("held", "1", "--as", text, *FORCED, "--yes")
+            ended = self.election(f"held 1 --as '{text}' {FORCED} --yes")
             self.assertEqual((ended.status, self.lines()), (9, []), text)
         # a refused answer among the others stops here
-        ended = self.election("held", "1", "--as", "cleo A 1,2,3 B 1,2,3", *FORCED, "--yes")
+        ended = self.election(f"held 1 --as 'cleo A 1,2,3 B 1,2,3' {FORCED} --yes")
         self.assertNotEqual(ended.status, 0, ended)
-        self.done("held", "1", "--as", "cleo c) 1, 2,3,4 A 1,2", "--yes")
-        self.demand_entered("cleo A 1,2 C 1,2,3,4")
-
-
-class Names(LabelsTest):
-    call_words = None
-
-    def test_who_can_be_taken_for_a_label(self):
-        [note] = [
-            line for line in self.done("check").output.splitlines() if line.startswith("Note: ")
-        ]
-        self.assertIn("a (A. Adams)", note)
-        self.assertIn("ben-b (Ben B)", note)
-        self.assertNotIn("cleo", note)
+        self.done("held 1 --as 'cleo c) 1, 2,3,4 A 1,2' --yes")
+        self.assert_lines("cleo A 1,2 C 1,2,3,4")
 
 
 class Exchanged(QuestionsTest):
@@ -290,17 +214,15 @@ class Exchanged(QuestionsTest):
     def setUp(self):
         super().setUp()
         self.add_lines("ada A 1,2 B 1,2,3 C 1,2,3,4", "ben A 1,2 C 1,2,3,4", "cleo B 1,2,3")
-        self.done("letters", "call")
-        self.done("close", "--early")
-        self.done("publish", "--force", "--because", "it was early")
+        self.done("letters call")
+        self.done("close --early")
+        self.done("publish --force --because 'it was early'")
         self.announced = self.letter("call")
-        self.result = self.read("letters/result.txt").decode()
+        self.result = self.text("letters/result.txt")
 
     def letter(self, kind: str) -> str:
         [file] = (self.folder / "letters" / kind).rglob("*ada*.eml")
-        read = email.message_from_bytes(file.read_bytes()).get_payload(decode=True)
-        assert isinstance(read, bytes)
-        return read.decode()
+        return text_in(file.read_bytes())
 
     def is_whole(self, folder: pathlib.Path, name: str, letter: str) -> bool:
         """Whether the files of a folder are those of a letter: the list has its checksum, and each file that of the list."""
@@ -345,17 +267,11 @@ class Exchanged(QuestionsTest):
                 change(copy)
                 self.assertFalse(self.is_whole(copy, name, letter), copy)
 
-    def test_pages_and_the_folder_of_another_assembly(self):
-        """Each page names the checksum of the list, and of no other poll than its own; the list binds the title."""
+    def test_pages(self):
+        """Each names the checksum of the list, and of no other poll than its own."""
         result, sums = self.folder / "result", self.read("call/polls.sha256")
         digests = {line[66:67]: line[:64] for line in sums.decode().splitlines()[: len(self.polls)]}
         for label in self.polls:
             page = (result / label / "index.html").read_text().partition("<script")[0]
             named = [other for other in self.polls if digests[other] in page]
             self.assertEqual((named, hashlib.sha256(sums).hexdigest() in page), ([label], True))
-        # another assembly with the same polls, but for its title
-        self.folder = self.scratch / "other"
-        with mock.patch.object(type(self), "title", "Another assembly"):
-            shutil.copytree(self.made(), self.folder)
-        self.assertNotEqual(self.read("call/polls.sha256"), sums)
-        self.assertEqual(self.read("call/A/poll.toml"), (result / "A/poll.toml").read_bytes())

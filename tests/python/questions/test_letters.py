@@ -11,11 +11,13 @@ import unittest
 from collections.abc import Iterable, Mapping, Sequence
 from typing import NamedTuple
 
+import pytest
+
 from debvote_tools.inbox.letter import ParsedLetter
 from debvote_tools.book.queries import TimedBallot
 from debvote_tools.inbox.judging import judge_all
 from debvote_tools.inbox.letter_lines import ReadLetter, from_json, to_json, with_texts
-from debvote_tools.inbox.rules import LetterCase, LetterOutcome
+from debvote_tools.inbox.rules import LetterCase, Ruling
 from debvote_tools.inbox.signature import Signature
 from debvote_tools.text.motions import Words, words_of
 
@@ -102,7 +104,7 @@ def judged(
 def becomes(text: str, how: object = letter, words: Words = {}, name: str = "ada") -> str:
     """What becomes of a letter, and the ballot that `held --enter` takes of one that waits."""
     [case] = judged(how(name, text), words=words)  # type: ignore[operator]
-    is_taken = case.outcome is LetterOutcome.WAITS and case.to_enter and case.line
+    is_taken = case.ruling is Ruling.WAITS and case.to_enter and case.line
     return f"{outcome(case)} ({case.line.ballot.line})" if is_taken and case.line else outcome(case)
 
 
@@ -159,6 +161,14 @@ class Written(unittest.TestCase):
                 "ada D 1,2": none,
                 "ada A 1,2 B 2,1": none,
                 "ada\nA 1,2\nB 2,1": none,
+                "ada A 1,2 D 1,2": none,
+                "ada AB 1,2": none,
+                "ada A 1,2 B": none,
+                "ada\nA 1,2 B": none,
+                "ada A 1,2 1,2,3": none,
+                "ada 1,2 A": none,
+                "A ada 1,2": none,
+                "B 2,1,3,-\nada\nA 1,2": more,
                 "ada A 1,2 A 2,1": none,
                 "ada A 1,3": none,
                 "ada A 50,40": none,
@@ -358,6 +368,7 @@ class InWords(unittest.TestCase):
 
 
 class Long(unittest.TestCase):
+    @pytest.mark.whole
     def test_each_ends_soon(self):
         """A time that grows with the square of the length would be minutes."""
         accents = f"{chr(0x301) * 60_000}{chr(0x316) * 60_000}"
@@ -435,6 +446,7 @@ class Later(unittest.TestCase):
             found = judged(*copies, letter("ada", between, number=7, time=minute(60)))
             self.assertEqual(outcome(found[-1]), becomes_copy)
 
+    @pytest.mark.whole
     def test_of_many_letters_of_an_elector_each_is_compared_with_few(self):
         """Twice as many take about twice as long, also after one by another clock, which may turn others; and so do many that are alike, and copies."""
         texts = {
@@ -483,21 +495,21 @@ PIECES = {
     ),
     "N": ("ada", "Ada", "ADA", "Ada Lovelace"),
     "M": ("ben", "Eve", "Fay Fox B"),
-    "x": (
-        "see you on the 5th",
-        "tel. 030 123456",
-        "PS: when does it end?",
-        "B. Lovelace",
-        "???",
-        "*****",
-        "A",
-        "b",
-        "I have 2 of 3",
-        "Please do not count this",
-        "I, 2 and 3 are ranks",
-        "Hello?",
-        "-",
-    ),
+    "x": """\
+see you on the 5th
+tel. 030 123456
+PS: when does it end?
+B. Lovelace
+???
+*****
+A
+b
+I have 2 of 3
+Please do not count this
+I, 2 and 3 are ranks
+Hello?
+-
+""".splitlines(),
     "": ("", " ", "\u00a0"),
     "S": (
         "-- \nAda Lovelace",
@@ -538,26 +550,26 @@ RIGHT = (
     "{A}\t{r}",
     "*{A}* {r}",
 )
-WRONG = (
-    "({A}) {r}",
-    "and {A} {r}",
-    "{A} = {r}",
-    "Question {A}: {r}",
-    "{A} {b}",
-    "{A}: {r}, please",
-    "I vote {r} in {A}",
-    "{r}",
-    "- {A} {b}",
-    "{A} | {r}",
-    "{A}: yes",
-    "{A} no!",
-    "> {A} {r}",
-    "{A} {r} {A} {r}",
-    "D {r}",
-    "ben {A} {r}",
-    "{A} {r},1",
-    "ada {r}",
-)
+WRONG = """\
+({A}) {r}
+and {A} {r}
+{A} = {r}
+Question {A}: {r}
+{A} {b}
+{A}: {r}, please
+I vote {r} in {A}
+{r}
+- {A} {b}
+{A} | {r}
+{A}: yes
+{A} no!
+> {A} {r}
+{A} {r} {A} {r}
+D {r}
+ben {A} {r}
+{A} {r},1
+ada {r}
+""".splitlines()
 # a name is above the first answer, and may be again above others; one below the last is a farewell. Below "-- " and Outlook all is of no matter
 PLAIN = re.compile("g*(?:N+A|N*V)(?:N*[AV])*[fN]*(?:S[gfNMxSU]*)?(?:QU*|O[gfNMxSQUO]*)?")
 
@@ -630,9 +642,7 @@ class Random(unittest.TestCase):
         ):
             case = judged_alone(one, known)
             name, *parts = (
-                case.ballots[0].ballot.line.split(" ")
-                if case.outcome is LetterOutcome.GOES_IN
-                else [""]
+                case.ballots[0].ballot.line.split(" ") if case.ruling is Ruling.GOES_IN else [""]
             )
             stands = (
                 {piece.answer for piece in pieces if piece.answer[0]}
@@ -675,10 +685,10 @@ class Forged(unittest.TestCase):
         return len(went_in)
 
     def test_answers_to_forgeries(self):
-        texts = random.Random(1).sample(
-            list(test_forgeries.answers_to_forgeries()), min(3_984, Random.COUNT)
-        )
-        self.assertEqual([self.demand(texts, "own"), self.demand(texts[:600], "none")], [0, 0])
+        every, some = list(test_forgeries.answers_to_forgeries()), min(3_984, Random.COUNT)
+        texts = random.Random(1).sample(every, some)
+        went_in = [self.demand(texts, "own"), self.demand(texts[: some // 6], "none")]
+        self.assertEqual(went_in, [0, 0])
 
     def test_the_last_answer_elsewhere(self):
         """Next to a quotation, or below the end of the text."""

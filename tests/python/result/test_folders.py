@@ -3,11 +3,14 @@
 DEBVOTE_LARGEST_ELECTORS says how many electors the largest election has; 10000 if it is not given.
 """
 
+import collections
 import hashlib
 import os
 import random
 import re
 import tomllib
+
+import pytest
 
 from tests.support import examples, looks, page_parts, publishing, result_checks
 
@@ -193,8 +196,7 @@ class FoldersTest(looks.LooksTest):
                 cls.castings[folder] = more[-1].removeprefix("--casting=") if more else None
         cls.note("how many", len(cls.castings) > len(examples.CASES), True)
         slips = [try_slip(cls.note, name, cls.scratch) for name in SLIPS]
-        sizes = ((12, 20), (13, 20), (32, 100))
-        large = [publish_large(cls.note, cls.scratch, *size) for size in sizes]
+        large = [publish_large(cls.note, cls.scratch, number, 20) for number in (12, 13)]
         return [*cls.castings, *slips, *large, try_names(cls.note, cls.scratch)]
 
     def test_pages(self):
@@ -202,6 +204,10 @@ class FoldersTest(looks.LooksTest):
             page_parts.try_page(self.expect, folder.name, folder)
             result_checks.try_published(self.expect, folder.name, folder, casting)
 
+    # it opens all pages, too
+    test_widths_and_colours = pytest.mark.whole(looks.LooksTest.test_widths_and_colours)
+
+    @pytest.mark.whole
     @looks.NEEDS_BROWSER
     @looks.NEEDS_PICTURES
     def test_pictures(self):
@@ -221,6 +227,7 @@ class FoldersTest(looks.LooksTest):
         self.expect("pictures that fit and that scroll", (kinds, large), ({True, False}, {False}))
         self.expect("pictures have one ink in light and another in dark", len(inks), 2)
 
+    @pytest.mark.whole
     @looks.NEEDS_BROWSER
     def test_bars(self):
         """Each bar is as long as its number says, and is seen on the ground of the page by its
@@ -241,6 +248,7 @@ class FoldersTest(looks.LooksTest):
         found = len(fills), len({fill for _, _, fill in fills})
         self.expect("fills of bars", found, (10, 7))
 
+    @pytest.mark.whole
     @looks.NEEDS_BROWSER
     def test_doubts(self):
         """The doubts of each page are seen in the first window, and can be read on their own
@@ -259,6 +267,7 @@ class FoldersTest(looks.LooksTest):
         self.expect("doubts have one ground in light and another in dark", len(grounds), 2)
 
 
+@pytest.mark.whole
 class LargestTest(looks.LooksTest):
     widths = looks.DOUBT_WIDTHS
 
@@ -269,10 +278,12 @@ class LargestTest(looks.LooksTest):
 
 class RandomTest(publishing.PublishTest):
     def test_random_polls(self):
-        # no random poll leaves as many options in a tie
-        many = "rounds-cycle-of-31-options"
-        folder = self.scratch / many
-        poll, ballots, _ = examples.of_case(many, self.scratch)
-        publishing.publish_files(poll, ballots, folder)
-        met = result_checks.try_published(self.expect, many, folder, None)
+        met = collections.Counter()
+        if result_checks.POLLS >= result_checks.ENOUGH:
+            # no random poll leaves as many options in a tie
+            many = "rounds-cycle-of-31-options"
+            folder = self.scratch / many
+            poll, ballots, _ = examples.of_case(many, self.scratch)
+            publishing.publish_files(poll, ballots, folder)
+            met = result_checks.try_published(self.expect, many, folder, None)
         result_checks.try_random_polls(self.expect, met)

@@ -68,7 +68,8 @@ class OfElections(CalledTest):
         """Runs a command that has to stop with these words; it makes no folder and no act."""
         acts, before = len(self.acts()), (self.folder / folder).exists()
         ended = self.election(*words, **how)
-        missing = [text for text in said if text not in ended.faults]
+        parts = [said] if isinstance(said, str) else said
+        missing = [text for text in parts if text not in ended.faults]
         self.assertEqual((ended.output, missing, ended.status), ("", [], status), ended.faults)
         made = len(self.acts()), (self.folder / folder).exists()
         self.assertEqual(made, (acts, before), words)
@@ -117,32 +118,38 @@ class OfElections(CalledTest):
     def text(self, name):
         return self.read(name).decode()
 
+    @property
     def page(self):
         return self.text("result/index.html")
 
+    @property
     def sections(self):
-        return pages.sections_of(self.page())
+        return pages.sections_of(self.page)
 
     def in_part(self, part):
-        return self.sections()[part].text()
+        return self.sections[part].text()
 
+    @property
     def doubts(self):
-        return pages.doubts_of(self.page())
+        return pages.doubts_of(self.page)
 
     def files(self, folder="result"):
         return {file.name: file.read_bytes() for file in (self.folder / folder).iterdir()}
 
+    @property
     def published(self):
         """What is published, and how many acts were done."""
         return self.files(), len(self.acts())
 
     def items(self, part):
-        return [item.text() for item in self.sections()[part].all("li")]
+        return [item.text() for item in self.sections[part].all("li")]
 
+    @property
     def what_was_done(self):
         """The acts that the page tells, without their times."""
         return [text.partition("): ")[2] for text in self.items("What-was-done")]
 
+    @property
     def letter(self):
         return in_one_line(self.text("letters/result.txt"))
 
@@ -152,7 +159,7 @@ class OfElections(CalledTest):
 
     def messages(self):
         """Those with the letter of the result, the newest last."""
-        self.say("letters", "result", "--from", "vote@x.example")
+        self.say("letters result --from vote@x.example")
         files = (self.folder / "letters" / "result").rglob("*.eml")
         return [
             email.message_from_bytes(file.read_bytes(), policy=email.policy.default)
@@ -162,7 +169,7 @@ class OfElections(CalledTest):
     def checksums_of_letters(self, ballots):
         """The checksums of the page are those of the letters, each in its place."""
         code = r"<pre><code>([0-9a-f]{64})  (\S+)</code></pre>"
-        shown = {name: sum for sum, name in re.findall(code, self.page())}
+        shown = {name: sum for sum, name in re.findall(code, self.page)}
         named = re.findall(r"(?m)^  ([0-9a-f]{64})  (\S+)$", self.text("letters/result.txt"))
         files = ("SHA256SUMS", "index.html")
         wanted = [(digest(self.read(f"result/{name}")), name) for name in files]
@@ -184,15 +191,15 @@ class OfElections(CalledTest):
 
 class OfOpenVotes(OfElections):
     def test_the_files(self):
-        self.say("call", "--names")
+        self.say("call --names")
         self.add("ada-lovelace 1,2,3\nno-one 1,2,3\nzoe-muller 1,-,3\ncleo 2,1,3\n")
-        self.say("strike", "3", "--because", "Zoë has sent it <b>twice</b>")
+        self.say("strike 3 --because 'Zoë has sent it <b>twice</b>'")
         self.say("close")
         self.add("dan 3,2,1\n")
         said = self.publish(status=1).splitlines()[:3]
         self.assertEqual(said, ["Tie: 1 2", "verified", "Made the folder result."])
         self.whole()
-        self.say("export", "exported")
+        self.say("export exported")
         files = self.files()
         names = "poll.toml ballots.txt late.txt sheet.txt standing.txt result.json votes.csv recount.py recount.js closed.txt READING-A-SHEET.md "
         names += "SHA256SUMS index.html" + " picture.svg" * elections.HAS_PICTURES
@@ -206,12 +213,12 @@ class OfOpenVotes(OfElections):
         label = json.loads(files["result.json"])["options"][1]
         self.assertEqual((label["name"], label["label"]), ("Grosse", "Größe"))
         # of aliases nothing is said
-        self.assertNotIn("To find it without this page", self.page())
+        self.assertNotIn("To find it without this page", self.page)
         voters = ["ada-lovelace Ada <Lovelace>", "cleo Cleo", "zoe-muller Zoë Müller", "dan Dan"]
         self.assertEqual(self.items("Who-voted"), voters)
         refused = self.items("Refused-lines")
         self.assertEqual((len(refused), refused[-1]), (2, "line 1: dan 3,2,1"))
-        facts = [entry.text() for entry in pages.tree_of(self.page()).one("ul", "facts").all("li")]
+        facts = [entry.text() for entry in pages.tree_of(self.page).one("ul", "facts").all("li")]
         self.assertEqual(facts, ["2 of 4 voted", "1 of 3 lines refused", "1 came late"])
         checksum = digest(ballots)
         done = [
@@ -219,9 +226,9 @@ class OfOpenVotes(OfElections):
             "The secretary struck envelope 3: its line does not count. The reason, in the secretary's words: Zoë has sent it <b>twice</b>",
             f"The vote was closed. Lines in time: 3. Checksum: {checksum}.",
         ]
-        self.assertEqual(self.what_was_done(), done)
+        self.assertEqual(self.what_was_done, done)
         tie = "Option 1: 72 Euro and Option 2: Größe are tied. The casting vote has to choose one of them. "
-        self.assertIn(f"{tie}Option 1: 72 Euro against Option 2: Größe: 1 to 1.", self.letter())
+        self.assertIn(f"{tie}Option 1: 72 Euro against Option 2: Größe: 1 to 1.", self.letter)
         self.checksums_of_letters("ballots.txt")
         self.assertEqual(self.acts()[-1].detail["checksums"]["ballots.txt"], checksum)
         # the command of the letter shows each file that somebody has changed
@@ -249,7 +256,7 @@ class OfOpenVotes(OfElections):
         end = ("--until", "2099-12-04 18:00", "--zone", "Europe/Berlin")
         self.say("call", *end, "--at", "https://x.example/")
         self.add("ada-lovelace 1,2,3\n")
-        self.say("close", "--early")
+        self.say("close --early")
         self.write("about", TEXT)
         # also if the clock went back before it
         self.set_clock("2020-12-05T09:00:00+01:00")
@@ -280,10 +287,10 @@ class OfOpenVotes(OfElections):
         until = (
             "one should have been able to vote until Friday, 4 December 2099, 18:00 (UTC+01:00)."
         )
-        [doubt] = self.doubts()
+        [doubt] = self.doubts
         close = "^The vote was closed on (?:(?!2099).)* before its announced end: "
         self.assertRegex(doubt, f"{close}{re.escape(until)}$")
-        self.assertIn(doubt, self.letter())
+        self.assertIn(doubt, self.letter)
         letters = [self.text("letters/closed.txt"), *(one.get_content() for one in self.messages())]
         self.assertEqual([until in in_one_line(text) for text in letters], [True] * 4)
 
@@ -302,7 +309,7 @@ class OfOpenVotes(OfElections):
         (self.folder / "mine").mkdir()
         self.write("mine/a", "b")
         for name in ("mine", "members.csv"):
-            self.stops("publish", name, said=[f"{name}: it exists already"], status=2, folder=name)
+            self.stops("publish", name, said=f"{name}: it exists already", status=2, folder=name)
         (self.folder / "result" / "picture.svg").unlink(missing_ok=True)
         self.say(*french)
         other = self.scratch / "another election"
@@ -324,7 +331,7 @@ class OfOpenVotes(OfElections):
             )
         self.publish("result-2")
         files = self.files("result-2")
-        self.stops("publish", "result-2/../result", said=["as result-2/../result-3"], status=2)
+        self.stops("publish result-2/../result", said="as result-2/../result-3", status=2)
         for name in ("result-2/x/y", "result-2/../result-2/x", "call/result"):
             inside = f"it would be in {self.folder / name.partition('/')[0]}, whose files are published as they are"
             self.stops(
@@ -334,7 +341,7 @@ class OfOpenVotes(OfElections):
         shutil.rmtree(self.folder / "call")
         for name in ("call", "letters/x", "private"):
             inside = f"{name}: it would be in the folder {name.partition('/')[0]}, whose files go to others; nothing was published"
-            self.stops("publish", name, said=[inside], status=2, folder=name)
+            self.stops("publish", name, said=inside, status=2, folder=name)
         self.assertEqual(self.files("result-2"), files)
         # it takes the place of the last one, and that of no other: as it was before, with another
         # file, and with one more
@@ -345,7 +352,7 @@ class OfOpenVotes(OfElections):
             self.publish("result-2")
             for name, data in change.items():
                 self.write(f"result-2/{name}", data)
-            self.stops("publish", "result-2", said=[since], status=2, folder="result-2")
+            self.stops("publish result-2", said=since, status=2, folder="result-2")
         self.assertEqual(self.read("result-2/mine"), b"mine")
 
     def test_a_result_that_takes_the_place_of_another(self):
@@ -356,55 +363,58 @@ class OfOpenVotes(OfElections):
         self.closed(TIE, "--at", "https://x.example/")
         self.publish(status=1)
         title = "Wo wir uns treffen: Größe"
-        self.assertEqual((self.earlier(), self.subject()), ([], f"Result: {title}"))
-        wanted = [f"{SINCE} {self.checksum()}. A tie: 72 Euro, Größe."]
+        self.assertEqual((self.earlier, self.subject), ([], f"Result: {title}"))
+        wanted = [f"{SINCE} {self.checksum}. A tie: 72 Euro, Größe."]
         cast = ("--casting", "Größe", "--cast-by", "Anna", "--cast-on", today())
         self.publish(*cast)
         decided = f"Result after the casting vote: {title}"
-        self.assertEqual((self.earlier(), self.subject()), ([], decided))
-        self.assertEqual(self.what_was_done()[2:], wanted)
+        self.assertEqual((self.earlier, self.subject), ([], decided))
+        self.assertEqual(self.what_was_done[2:], wanted)
         # again, also with the same words, it is the same
-        made = self.published()
+        made = self.published
         for words in ((), cast, ("--force",)):
             self.publish(*words)
-        self.assertEqual(self.published(), made)
-        wanted.append(f"{SINCE} {self.checksum()}. Winner: Größe by casting vote.")
+        self.assertEqual(self.published, made)
+        wanted.append(f"{SINCE} {self.checksum}. Winner: Größe by casting vote.")
         self.reopened_with("cleo 1,2,3\n")
         self.publish()
-        self.assertEqual((self.earlier(), self.subject()), (wanted, f"Corrected result: {title}"))
-        done = self.what_was_done()
+        self.assertEqual((self.earlier, self.subject), (wanted, f"Corrected result: {title}"))
+        done = self.what_was_done
         self.assertEqual(done[2:4], wanted)
         reopened = "The vote was opened again, for what had come before the first close"
         between = [text.partition(".")[0] for text in done[4:]]
         self.assertEqual(between, [reopened, "The vote was closed"])
-        last = f"{SINCE} {self.checksum()}. Winner: 72 Euro."
+        last = f"{SINCE} {self.checksum}. Winner: 72 Euro."
         # the same sheet as the last
         self.write("about", TEXT)
         self.publish("--about", "about")
-        self.assertEqual((self.earlier(), self.what_was_done()[-1]), (wanted, last))
+        self.assertEqual((self.earlier, self.what_was_done[-1]), (wanted, last))
         # of several the sentence stands once
-        self.assertEqual(self.letter().count("takes the place of earlier ones:"), 1)
+        self.assertEqual(self.letter.count("takes the place of earlier ones:"), 1)
 
+    @property
     def checksum(self):
         return digest(self.read("result/SHA256SUMS"))
 
+    @property
     def earlier(self):
         """The earlier results, as the page tells them above the result, and the letter in its
         list.
         """
         place = "<p>This result takes the place of an earlier one. (.*?)</p>"
         places = "<p>This result takes the place of earlier ones:</p>\\s*<ul>(.*?)</ul>"
-        shown = re.findall(place, self.page(), re.S)
-        for several in re.findall(places, self.page(), re.S):
+        shown = re.findall(place, self.page, re.S)
+        for several in re.findall(places, self.page, re.S):
             shown += re.findall("<li>(.*?)</li>", several, re.S)
         told = [in_one_line(re.sub("<[^>]*>", "", text.partition("): ")[2])) for text in shown]
-        letter = self.letter()
+        letter = self.letter
         self.assertEqual([letter.count(text) for text in told], [2] * len(told))
         # above, and in what was done
-        done = sum("A result was published" in text for text in self.what_was_done())
+        done = sum("A result was published" in text for text in self.what_was_done)
         self.assertEqual(letter.count("A result was published"), len(told) + done)
         return told
 
+    @property
     def subject(self):
         return self.messages()[-1]["Subject"].rpartition(" [")[0]
 
@@ -414,25 +424,25 @@ class OfOpenVotes(OfElections):
         """
         self.closed(TIE, "--at", "https://x.example/")
         self.publish("--casting", "72 Euro", "--cast-by", "Anna", "--cast-on", today())
-        files, letter, acts = self.files(), self.letter(), len(self.acts())
+        files, letter, acts = self.files(), self.letter, len(self.acts())
         self.write("members.csv", MEMBERS.replace("zoe@x", "zoe@y"))
-        self.say("roll", "--yes")
+        self.say("roll --yes")
         said = f"the result would differ from the one that was published (act {acts})"
         self.stops("publish", said=[said, "--force"])
-        self.assertEqual((self.files(), self.letter()), (files, letter))
+        self.assertEqual((self.files(), self.letter), (files, letter))
         self.publish("--force")
         last = self.acts()[-1]
         found = last.name, last.number, last.detail["casting"]
         self.assertEqual(found, ("publish", acts + 2, {"": "72 Euro"}))
         self.checksums_of_letters("ballots.txt")
-        self.assertNotEqual(self.letter(), letter)
+        self.assertNotEqual(self.letter, letter)
         self.assertIn("as it was published before", self.publish())
         self.assertEqual(len(self.acts()), acts + 2)
         # a tie again, without a casting vote
         self.add("cleo 1,2,3\n")
-        self.say("reopen", "--because", "a lost letter")
+        self.say("reopen --because 'a lost letter'")
         self.add("cleo 1,2,3\n", "--came-before-close", "yes")
-        self.say("strike", "1", "--because", "twice")
+        self.say("strike 1 --because twice")
         self.say("close")
         self.remove()
         self.assertEqual(self.publish(status=1).splitlines()[0], "Tie: 1 2")
@@ -446,7 +456,7 @@ class OfOpenVotes(OfElections):
             "the vote is not closed",
         ]
         self.stops("publish", said=[*told, "--force --because"])
-        self.stops("publish", "--force", said=told)
+        self.stops("publish --force", said=told)
         output = self.force(because="A <test>.\n\nNo more.")
         # no result ends the vote
         following = "Next: 3 letters of the call are not sent: "
@@ -456,10 +466,10 @@ class OfOpenVotes(OfElections):
             "More than half of the lines of the ballot file are refused: 1 of 1.",
             "The vote was not closed when this page was made: more ballots may come in.",
         ]
-        self.assertEqual(self.doubts(), doubts)
+        self.assertEqual(self.doubts, doubts)
         short = "<summary><strong>3 doubts:</strong> no ballot counts, most lines refused, vote not closed</summary>"
-        self.assertIn(short, self.page())
-        given = next(pages.tree_of(self.page()).all("div", "given")).all("p")
+        self.assertIn(short, self.page)
+        given = next(pages.tree_of(self.page).all("div", "given")).all("p")
         self.assertEqual([text.text() for text in given][1:], ["A <test>.", "No more."])
         kinds = [doubt["kind"] for doubt in self.acts()[-1].detail["doubts"]]
         self.assertEqual(kinds, ["no ballot", "mostly refused", "not closed"])
@@ -467,24 +477,22 @@ class OfOpenVotes(OfElections):
         self.say("close")
         self.say_done()
         self.assertIn("Next: debvote-election publish result-2\n", self.election("count").faults)
-        self.say("publish", "result-2")
+        self.say("publish result-2")
         # half of the lines are refused, and nothing stops: the reason is not told
         self.remove()
         self.force(because="nothing")
-        self.assertEqual(
-            (json.loads(self.files()["result.json"])["refused"], self.doubts()), (1, [])
-        )
+        self.assertEqual((json.loads(self.files()["result.json"])["refused"], self.doubts), (1, []))
         self.assertNotIn("nothing", self.in_part("Result"))
         # no close has fixed ballots that may become more
-        self.say("reopen", "--because", "a lost letter")
+        self.say("reopen --because 'a lost letter'")
         self.remove()
         self.force()
         self.assertNotIn("closed.txt", self.files())
-        self.assertNotIn("letter of the close", self.letter() + self.in_part("How-to-verify"))
+        self.assertNotIn("letter of the close", self.letter + self.in_part("How-to-verify"))
 
     def test_each_act_is_told(self):
         self.say("call")
-        self.say("call", "--take-back")
+        self.say("call --take-back")
         for day in (4, 5):
             end = ("--until", f"2099-12-0{day} 18:00", "--zone", "Europe/Berlin")
             self.say("call", *end, "--at", "https://x.example/")
@@ -492,13 +500,13 @@ class OfOpenVotes(OfElections):
         members = MEMBERS.replace("zoe@x", "zoe@y")
         for text in (members, members.replace("zoe@y", "zoe@z").replace("ada@x", "ada@z")):
             self.write("members.csv", text)
-            self.say("roll", "--yes")
-        self.say("close", "--early")
+            self.say("roll --yes")
+        self.say("close --early")
         lines = "zoe-muller 1,2,3\ncleo 1,2,3\n"
         self.add(lines)
         self.say("reopen", "--because", "Zoë's letter lay in the <hall>")
         self.add(lines, "--came-before-close", "yes")
-        self.say("strike", "1", "--because", "wrong hand")
+        self.say("strike 1 --because 'wrong hand'")
         self.act("extend", {"keyring": "a checksum"})
         detail = {
             "early": True,
@@ -530,13 +538,13 @@ class OfOpenVotes(OfElections):
             "2 late lines were entered again, as ones that had come before the first close, and replaced other ballots of their electors."
             f"{because} in a hurry",
         ]
-        self.assertEqual(self.what_was_done(), told)
+        self.assertEqual(self.what_was_done, told)
         # in the letter marks of quotation part our words from the secretary's
-        acts = in_one_line(self.letter().partition("WHAT WAS DONE")[2].partition("THE FILES")[0])
+        acts = in_one_line(self.letter.partition("WHAT WAS DONE")[2].partition("THE FILES")[0])
         self.assertEqual([text[:60] for text in told if text[:60] not in acts], [])
         self.assertIn("(in a hurry)", acts)
         # the late ones stay late
-        self.say("export", "copy")
+        self.say("export copy")
         for name in ("result/late.txt", "copy/late.txt"):
             self.assertEqual(self.text(name), lines)
         # the times are in one zone
@@ -552,14 +560,14 @@ class OfOpenVotes(OfElections):
 
         def enter(number, *words):
             self.write("letter.eml", letter.format(*words))
-            self.say("add", "letter.eml")
+            self.say("add letter.eml")
             forced = "--force", "not-tied", "--force", "voted-since"
             self.say("held", number, "--as", f"{words[1]} 3,2,1", *forced)
 
         # the vote is not of the day of a call that was taken back
         self.set_clock("2027-02-20T10:00:00+00:00")
         self.say("call")
-        self.say("call", "--take-back")
+        self.say("call --take-back")
         for day, hour in (("02-26", 11), ("02-27", 12)):
             self.set_clock(f"2027-{day}T10:00:00+00:00")
             self.say("call", "--until", f"2027-03-01 {hour}:00", "--zone", "UTC")
@@ -567,17 +575,17 @@ class OfOpenVotes(OfElections):
         self.set_clock("2027-03-01T13:00:00+00:00")
         self.add("zoe-muller 1,2,3\ncleo 1,2,3\ndan 1,2,3\n")
         enter("1", 30, "cleo")
-        self.say("strike", "3", "--because", "on paper")
+        self.say("strike 3 --because 'on paper'")
         self.set_clock("2027-03-01T12:50:00+00:00")
         self.say("close")
         self.set_clock("2027-03-01T14:00:00+00:00")
-        self.say("reopen", "--because", "a lost letter")
+        self.say("reopen --because 'a lost letter'")
         self.add("dan 1,3,2\n", "--came-before-close", "yes")
         self.say("close")
         # a late one that arrived after the end is no doubt
         enter("2", 40, "zoe-muller")
         self.publish()
-        self.assertIn("Vote of 26 February to 1 March 2027", self.page())
+        self.assertIn("Vote of 26 February to 1 March 2027", self.page)
         done = self.in_part("What-was-done")
         for said in (
             "3 lines came after the end, and are in time, since the vote was not closed yet.",
@@ -594,7 +602,7 @@ class OfOpenVotes(OfElections):
             (b"x" * 65_537, "about: it is longer than 65536 bytes"),
         ]:
             self.write("about", data)
-            self.stops("publish", "--about", "about", said=[said], status=2)
+            self.stops("publish --about about", said=said, status=2)
         wrong = '--casting xx --cast-by " --cast-on tomorrow --about none --force --because \u202e'
         said = [
             "--cast-by: it must be a name",
@@ -605,7 +613,7 @@ class OfOpenVotes(OfElections):
         ]
         self.stops("publish", *wrong.split(), said=said, status=2)
         said = "--because: the text has 2001 characters; at most 2000 are allowed"
-        self.stops("publish", "--force", "--because", "x" * 2001, said=[said], status=2)
+        self.stops("publish", "--force", "--because", "x" * 2001, said=said, status=2)
         (self.folder / "about").write_bytes(b"\xef\xbb\xbfOne\r\n\r\n\xd7\x93 <i>two</i>\r\n")
         self.publish("--about", "about")
         self.assertEqual(self.about(), ["One", "\u05d3 <i>two</i>"])
@@ -621,13 +629,13 @@ class OfOpenVotes(OfElections):
             ('standing) echo "ada-lovelace 3,2,1"; exit', "another thing than it keeps"),
         ]:
             path = self.other_debvote(f"case $1 in {answer} ;; esac")
-            self.stops("publish", "--language", "es", said=[said], path=path)
+            self.stops("publish --language es", said=said, path=path)
             self.assertEqual(self.files(), files)
         # and that the book was moved stands there, with its reason
         self.state = self.scratch / "other computer"
         self.publish("--about", "about", "--moved", "--because", "a new <laptop>")
         moved = "that did not know it yet. The reason, in the secretary's words: a new <laptop>"
-        self.assertTrue(self.what_was_done()[-1].endswith(moved))
+        self.assertTrue(self.what_was_done[-1].endswith(moved))
 
     def test_a_debvote_whose_reasons_have_other_words(self):
         self.say("call")
@@ -635,16 +643,16 @@ class OfOpenVotes(OfElections):
         other = f'case $1 in explain) {elections.PROGRAM} "$@" | sed "s/ranks, the poll/of/"; exit ;; esac'
         path = self.other_debvote(other)
         self.assertIn("bad rank count: 2 of has 3", self.say("status", path=path))
-        self.assertIn("bad rank count: 2 of has 3", self.say("show", "cleo", path=path))
+        self.assertIn("bad rank count: 2 of has 3", self.say("show cleo", path=path))
         self.say("close", path=path)
         self.assertIn("Winner", self.say("count", path=path))
         self.publish(path=path)
         # the verdict is another one
         other = other.replace("ranks, the poll/of", "bad rank count/bad shape")
-        self.stops("count", path=self.other_debvote(other), said=["another thing than it keeps"])
+        self.stops("count", path=self.other_debvote(other), said="another thing than it keeps")
 
     def about(self):
-        return [text.text() for text in self.sections()["About-this-vote"].all("p", "about")]
+        return [text.text() for text in self.sections["About-this-vote"].all("p", "about")]
 
     def test_casting_votes(self):
         self.closed(TIE)
@@ -666,13 +674,13 @@ class OfOpenVotes(OfElections):
             (("--casting", "Größer", *cast), "no option has this name", 8),
             (("--casting", "Nichts davon", *cast), none_left, 8),
         ]:
-            self.stops("publish", *words, said=[said], status=status)
+            self.stops("publish", *words, said=said, status=status)
         self.publish(*euro, *cast)
         said = f'The secretary says that the casting vote was that of "Anna <b>", given on {date_in_words(times.now().astimezone(), ENGLISH)}. No count can show this.'
         self.assertIn(said, self.in_part("Result"))
         won = "Winner: Option 1: 72 Euro by casting vote. Option 1: 72 Euro against Option 2: Größe: 1 to 1."
         for text in (said, won):
-            self.assertIn(text, self.letter())
+            self.assertIn(text, self.letter)
         earlier = [
             "an earlier publication has a casting vote for 72 Euro",
             "publish --casting '72 Euro' --cast-by 'Anna <b>' --cast-on ",
@@ -680,12 +688,12 @@ class OfOpenVotes(OfElections):
         for words in (("--casting", "Grosse", *cast), ("--language", "fr")):
             self.stops("publish", *words, said=earlier)
         # what no reason lets through is said, and no reason is asked for
-        self.stops("publish", "--casting", "Nichts davon", *cast, said=[none_left], status=8)
+        self.stops("publish", "--casting", "Nichts davon", *cast, said=none_left, status=8)
         # one that decides nothing is not told
         self.reopened_with("cleo 1,2,3\n")
         ended = self.election("publish", *euro, *cast)
         self.assertIn("Note: it is no tie, so no casting vote decides it", ended.faults)
-        self.assertNotIn("that the casting vote was", self.in_part("Result") + self.letter())
+        self.assertNotIn("that the casting vote was", self.in_part("Result") + self.letter)
         # the letter of the close takes the place of the last one
         before = self.closes()[1]
         self.reopened_with("dan 2,1,3\n", because="a bag was forgotten")
@@ -694,14 +702,14 @@ class OfOpenVotes(OfElections):
         self.assertEqual((self.closes()[-1], told), (before, [False, True]))
         self.force("--casting", "Größe", *cast)
         doubt = "An earlier result of this vote was published with a casting vote for {}."
-        self.assertEqual(self.doubts(), [doubt.format("72 Euro")])
-        self.assertIn("Winner: Option 2: Größe by casting vote", self.letter())
+        self.assertEqual(self.doubts, [doubt.format("72 Euro")])
+        self.assertIn("Winner: Option 2: Größe by casting vote", self.letter)
         since = "lines in time that came in: 1; that were taken out: 0."
-        self.assertTrue(self.what_was_done()[-1].endswith(since))
+        self.assertTrue(self.what_was_done[-1].endswith(since))
         self.assertIn("as it was published before", self.publish())
         # one that is left out
         self.force(status=1)
-        self.assertEqual(self.doubts(), [doubt.format("Größe")])
+        self.assertEqual(self.doubts, [doubt.format("Größe")])
 
     @mock.patch.dict(os.environ, {"DEBVOTE_FORKS": "1"})
     def test_a_publication_that_is_killed_after_its_act(self):
@@ -763,7 +771,7 @@ class OfOpenVotes(OfElections):
         self.write("members.csv", f"who,mail,name\n{members}")
         self.text_of_option(1, f"text {hostile}")
         self.say("roll")
-        self.say("call", "--names")
+        self.say("call --names")
         refused = "".join(f"ada {number} {hostile}\n" for number in range(4))
         self.add(f"ada 1,2,3\nb 2,1,3\nada 2,1,3\n{refused}", "--force")
         self.say("strike", "3", "--because", f"strike {hostile}")
@@ -778,12 +786,12 @@ class OfOpenVotes(OfElections):
         pages.try_page(self.assert_equal, "hostile", self.folder / "result")
         # the text about the vote stands above what is folded
         seen = ["Result", "Why-not-the-others", "Find-your-ballot", "Check-it", "About-this-vote"]
-        self.assertEqual([*self.sections()][: len(seen)], seen)
-        shown = pages.tree_of(self.page()).one("main").text()
+        self.assertEqual([*self.sections][: len(seen)], seen)
+        shown = pages.tree_of(self.page).one("main").text()
         for word in ("ada", "text", "strike", "reopen", "about", "by", "force"):
             self.assertIn(f"{word} {hostile}", shown)
         whose = f"About 1 {hostile} 1, in the words of those who publish this page. The program has not checked them:"
-        about = self.sections()["Options"].one("div", "given").text()
+        about = self.sections["Options"].one("div", "given").text()
         self.assertEqual(in_one_line(about), f"{whose} text {hostile}")
         self.assertIn(hostile[:50], self.items("Refused-lines")[0])
 
@@ -803,13 +811,13 @@ class OfSecretVotes(OfElections):
     def test_the_files(self):
         self.called()
         for words in (("count",), ("publish",), ("publish", "--force", "--because", "x", "--yes")):
-            self.stops(*words, said=["the vote is secret, and can be counted only after the close"])
-        self.say("strike", "1", "--because", "private reason")
+            self.stops(*words, said="the vote is secret, and can be counted only after the close")
+        self.say("strike 1 --because 'private reason'")
         # neither its words nor log and letters have the seal, or a checksum without it; the poll
         # that is exported is that of the ballots
         told = self.say("close") + self.say("log")
         told += "".join(file.read_text() for file in self.folder.glob("letters/*.txt"))
-        self.say("export", "exported", "--yes")
+        self.say("export exported --yes")
         electors, seal = queries.electors(self.book), fixed_by(self.acts()[-1])[""].seal
         aliases = {elector.name: elector.alias for elector in electors}
         lines = [f"{aliases['ada-lovelace']} 1,2,3\n", f"{aliases['zoe-muller']} 2,1,3\n"]
@@ -828,7 +836,7 @@ class OfSecretVotes(OfElections):
         self.assertEqual((files["ballots.txt"], "late.txt" in files), (published, False))
         self.assertIn(digest(files["seal.txt"] + published), files["closed.txt"].decode())
         self.checksums_of_letters("-")
-        self.assertIn("and until then type your code nowhere. The subject", self.letter())
+        self.assertIn("and until then type your code nowhere. The subject", self.letter)
         secrets = "lovelace müller zoe-muller no-one 1,2,x private|reason".split()
         secrets += [elector.code for elector in electors]
         for name, data in files.items():
@@ -843,8 +851,8 @@ class OfSecretVotes(OfElections):
         refused = "3 lines that came were refused: 2 as invalid, and 1 because"
         self.assertIn(refused, self.in_part("Refused-lines"))
         struck = "The secretary struck an envelope: its line does not count."
-        self.assertEqual(self.what_was_done().count(struck), 1)
-        self.assertNotIn("Who-voted", self.sections())
+        self.assertEqual(self.what_was_done.count(struck), 1)
+        self.assertNotIn("Who-voted", self.sections)
 
     def test_texts_are_asked_for(self):
         self.called()
@@ -854,12 +862,12 @@ class OfSecretVotes(OfElections):
         self.stops(*about, said=["these texts may tell who voted what", "--yes"])
         self.say(*about, "--yes", status=1)
         # the same again is not asked for
-        made, acts = self.published(), len(self.acts())
+        made, acts = self.published, len(self.acts())
         self.publish(status=1)
-        self.assertEqual(self.published(), made)
+        self.assertEqual(self.published, made)
         # a reason of --moved is an act, and no publication
         self.state = self.scratch / "other computer of a secret vote"
-        ended = self.election("publish", "--moved", "--force", "--because", "of <Ada>")
+        ended = self.election("publish --moved --force --because 'of <Ada>'")
         self.assertIn("these texts may tell", ended.faults)
         self.assertEqual((ended.faults.count("  of <Ada>\n"), ended.status), (1, 9))
         self.assertEqual([act.name for act in self.acts()[acts:]], ["moved"])
@@ -868,14 +876,14 @@ class OfSecretVotes(OfElections):
         with mock.patch("debvote_tools.text.times.now", return_value=self.acts()[-1].time):
             for name in ("Ben", "Cleo"):
                 self.act("moved", {**detail, "because": f"of <{name}>"})
-        self.stops("publish", "--force", said=["  of <Ben>\n", "  of <Cleo>\n"])
+        self.stops("publish --force", said=["  of <Ben>\n", "  of <Cleo>\n"])
         self.publish("--force", "--yes", status=1)
         agreed = [digest(f"of <{name}>".encode()) for name in ("Ada", "Ben", "Cleo")]
         self.assertEqual(self.acts()[-1].detail["agreed"], agreed)
         self.publish("--language", "fr", status=1)
         code = queries.electors(self.book)[0].code
         self.write("about", f"x {code[:16]}\n{code[16:].upper()}\n")
-        self.stops(*about, "--yes", said=["index.html would have the code of an elector in it"])
+        self.stops(*about, "--yes", said="index.html would have the code of an elector in it")
 
     def test_texts_of_options_are_asked_for_before_the_call(self):
         """There they become public; later they are not asked about again."""
@@ -884,13 +892,13 @@ class OfSecretVotes(OfElections):
         self.stops("call", said=[f"texts/1.txt:\n  {text}", "--yes"], folder="call")
         self.text_of_option(2, f"x {queries.electors(self.book)[0].code}\n")
         said = " would have the code of an elector in it"
-        self.stops("call", "--yes", said=[said], folder="call")
+        self.stops("call --yes", said=said, folder="call")
         (self.folder / "texts" / "2.txt").unlink()
-        self.say("call", "--yes")
+        self.say("call --yes")
         self.assertEqual(self.acts()[-1].detail["agreed"], [digest(text.encode())])
         self.write("letter.txt", "Zoë counts.\n")
         self.stops("call", said=["letter.txt:\n  Zoë counts.\n", "--yes"])
-        self.say("call", "--yes")
+        self.say("call --yes")
         for command in (["call"], ["call", "--take-back"], ["codes"], ["call"]):
             self.say(*command)
         self.add("ada-lovelace 3,2,9\n")
@@ -907,12 +915,12 @@ class OfSecretVotes(OfElections):
         self.add("ada-lovelace 1,2,3\nno-one 1,2,3\ncleo 1,2\n", "--force")
         self.say("close")
         # nobody is asked before it can be published
-        self.stops("publish", said=["more than half of the lines are refused, 2 of 3"])
+        self.stops("publish", said="more than half of the lines are refused, 2 of 3")
         said = ["texts/1.txt:\n  Zoë is for it.\n", "these texts may tell who voted what"]
-        self.stops("publish", "--force", "--because", "x", said=said)
+        self.stops("publish --force --because x", said=said)
         self.force("--yes")
         # without numbers
-        self.assertEqual(self.doubts(), ["More than half of the lines that came are refused."])
+        self.assertEqual(self.doubts, ["More than half of the lines that came are refused."])
 
     def test_two_results_that_can_be_compared(self):
         self.called()
@@ -927,7 +935,7 @@ class OfSecretVotes(OfElections):
             ("count", "s/^Tie: .*/Winner: 1 x/", differs),
         ):
             other = f'case "$*" in "{task} "*/dev/stdin*) {elections.PROGRAM} "$@" | sed "{change}"; exit ;; esac'
-            self.stops("publish", path=self.other_debvote(other), said=[said])
+            self.stops("publish", path=self.other_debvote(other), said=said)
         self.publish(status=1)
         whence = "Your code, as it is on your slip or in your letter"
         self.assertIn(whence, self.text("result/index.html"))
@@ -941,7 +949,7 @@ class OfSecretVotes(OfElections):
         self.reopened_with(lines, "--force", because="Cleo's letter")
         compared = "a comparison with the earlier result shows how these voted: {}; "
         shown = compared.format("ada-lovelace, cleo")
-        self.stops("publish", said=[shown])
+        self.stops("publish", said=shown)
         self.publish("--yes")
         self.assertEqual(len(self.files()["ballots.txt"].splitlines()), 3)
         # what is gone is seen, too, beside the last result, also where all is as in the first one
@@ -955,7 +963,7 @@ class OfSecretVotes(OfElections):
             self.say("strike", number, "--because", "it was forged")
             self.say("close")
             said = [compared.format(shown)]
-            self.stops("publish", "result-3", said=said, folder="result-3")
+            self.stops("publish result-3", said=said, folder="result-3")
         self.checksums_of_letters("-")
         # the reason stays in the log
         for name in ("index.html", "closed.txt"):

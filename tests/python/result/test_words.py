@@ -3,6 +3,8 @@
 import datetime
 import unittest
 
+import pytest
+
 from debvote_tools.result.facts import Act
 from debvote_tools.result.page import share
 from debvote_tools.result.why import Why
@@ -118,6 +120,7 @@ class WordsTest(unittest.TestCase):
         ]:
             self.assertEqual(share(voters, electors), wanted)
 
+    @pytest.mark.whole
     def test_why_options_of_random_elections_have_lost(self):
         """Beside the count of the reference, in more circles than published polls have."""
         for seed in range(ELECTIONS):
