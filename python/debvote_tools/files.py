@@ -1,6 +1,7 @@
 """Files that are read up to a limit, and written whole or not at all, and the lock of a folder."""
 
 import contextlib
+import dataclasses
 import fcntl
 import hashlib
 import os
@@ -171,17 +172,6 @@ def real_place(place: pathlib.Path) -> pathlib.Path:
     return pathlib.Path(os.path.realpath(place))
 
 
-@contextlib.contextmanager
-def folder_beside(place: pathlib.Path, prefix: str) -> Iterator[pathlib.Path]:
-    """A new folder beside a place. A run holds the lock of its own, so what is not locked is of a
-    run that was killed.
-    """
-    with naming(place):
-        made = temporary_folder(real_place(place).parent, prefix)
-    with locked(made, is_directory=True):
-        yield made
-
-
 def left_beside(place: pathlib.Path, prefix: str) -> list[pathlib.Path]:
     """The folders beside a place that runs have made. Another run may take one away, and that of
     another user can't be read.
@@ -202,19 +192,66 @@ def remove_left(place: pathlib.Path, prefix: str) -> None:
             shutil.rmtree(left, ignore_errors=True)
 
 
+@dataclasses.dataclass
+class NewFolder:
+    """A folder beside its place, and how the names of such folders begin."""
+
+    folder: pathlib.Path
+    prefix: str
+    # the book has its act: if it gets no place now, the next run sees that it got none
+    is_in_book: bool = False
+
+    def take_place(self, target_folder: pathlib.Path) -> None:
+        """Moves the folder to its place, and removes a published folder that is there, and what
+        killed runs have left beside it.
+        """
+        place = real_place(target_folder)
+        if place.is_dir():
+            with locked(place, is_directory=True):
+                aside = temporary_folder(place.parent, self.prefix)
+                place.rename(aside)
+                try:
+                    self.folder.rename(place)
+                except OSError:
+                    aside.rename(place)
+                    raise
+        else:
+            self.folder.rename(place)
+        sync_folder(place.parent)
+        remove_left(place, self.prefix)
+
+    def remove(self) -> None:
+        """Removes the folder, unless it was moved, or the book has its act."""
+        if not self.is_in_book:
+            shutil.rmtree(self.folder, ignore_errors=True)
+
+
+@contextlib.contextmanager
+def folder_beside(place: pathlib.Path, prefix: str) -> Iterator[NewFolder]:
+    """Makes an empty folder beside a place, and removes it at the end. A run holds the lock of its
+    own, so what is not locked is of a run that was killed.
+    """
+    with contextlib.ExitStack() as at_end:
+        with naming(place), uninterrupted():
+            new = NewFolder(temporary_folder(real_place(place).parent, prefix), prefix)
+            at_end.callback(new.remove)
+        at_end.enter_context(locked(new.folder, is_directory=True))
+        yield new
+
+
 @contextlib.contextmanager
 def whole_folder(place: pathlib.Path, file: str = "") -> Iterator[pathlib.Path]:
     """A new folder, which takes its place when all is in it, or of which one file does. Nothing
     else is left, nor what killed runs have left beside it.
     """
-    with naming(place), folder_beside(place, NEW) as made:
+    with naming(place), folder_beside(place, NEW) as new:
         try:
-            yield made
-            (made / file).rename(place)
+            yield new.folder
+            (new.folder / file).rename(place)
         finally:
-            shutil.rmtree(made, ignore_errors=True)
+            new.remove()
             remove_left(place, NEW)
-        sync_folder(made.parent)
+        sync_folder(new.folder.parent)
 
 
 def write_public(file: pathlib.Path, data: bytes) -> None:

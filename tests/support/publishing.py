@@ -9,6 +9,7 @@ import sys
 import tempfile
 import unittest.mock
 
+from debvote_tools.files import folder_beside
 from debvote_tools.poll.questions import Questions
 from debvote_tools.poll.sealed import read_plain
 from debvote_tools.result import command_line, folder
@@ -99,7 +100,9 @@ def publish_questions(target, polls, ballots, language, *, motions, castings):
     )
     facts = [QuestionFacts(vote, label, ballots[label]) for label in polls]
     without_graphviz = unittest.mock.patch.dict(os.environ, {"PATH": str(PROGRAM.parent)})
-    with folder.beside(target) as new, contextlib.redirect_stderr(io.StringIO()), without_graphviz:
+    with folder_beside(target, folder.BESIDE_PLACE) as new, contextlib.redirect_stderr(
+        io.StringIO()
+    ), without_graphviz:
         filled = folder.filled(new.folder, vote, facts, PROGRAM.parent, is_forced=True)
         new.take_place(target)
     return filled.letter.decode()
@@ -148,7 +151,7 @@ class ResultPageTest(PublishTest):
         of_vote = {key: changes.pop(key) for key in [*changes] if key in facts.vote._fields}
         vote = facts.vote._replace(**of_vote)
         made_room = plain_room(self.scratch / name)
-        with folder.beside(made_room / "result") as new:
+        with folder_beside(made_room / "result", folder.BESIDE_PLACE) as new:
             folder.filled(
                 new.folder, vote, [facts._replace(vote=vote, **changes)], programs, is_forced=True
             )

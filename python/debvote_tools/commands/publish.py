@@ -25,6 +25,8 @@ from debvote_tools.election import (
 )
 from debvote_tools.files import (
     OWN,
+    NewFolder,
+    folder_beside,
     left_beside,
     locked,
     read_text,
@@ -146,7 +148,7 @@ def published_in_place(
     questions = publication.question_facts(election, vote)
     # the folder is whole and counted before the act, and takes its place after the act: so a kill
     # leaves no folder that the book does not know
-    with folder.beside(target) as new:
+    with folder_beside(target, folder.BESIDE_PLACE) as new:
         filled = folder.filled(
             new.folder,
             vote,
@@ -198,7 +200,7 @@ def detail_of(words: PublishedWords, filled: folder.Filled, pending: Pending) ->
 def put_in_place(
     election: Election,
     history: History,
-    new: folder.NewFolder,
+    new: NewFolder,
     letter: bytes,
     target: pathlib.Path,
     detail: Detail | None,

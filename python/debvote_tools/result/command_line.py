@@ -13,7 +13,13 @@ from debvote_tools.cli import console
 from debvote_tools.cli.arguments import Options, add_arguments, add_version, option, positional
 from debvote_tools.cli.faults import Fault, Status, not_installed, other_format
 from debvote_tools.debvote import Debvote
-from debvote_tools.files import BALLOTS_LIMIT, POLL_LIMIT, read_at_most, sha256_of
+from debvote_tools.files import (
+    BALLOTS_LIMIT,
+    POLL_LIMIT,
+    folder_beside,
+    read_at_most,
+    sha256_of,
+)
 from debvote_tools.poll.plain_names import bad_options, bad_title
 from debvote_tools.poll.questions import Questions
 from debvote_tools.poll.sealed import KEYS, REQUIRED, SealedPoll, poll_of
@@ -63,7 +69,7 @@ def main(program_folder: pathlib.Path, given: Sequence[str] | None = None) -> in
         if not places.is_free(target_folder):
             raise folder.in_use(target_folder, "an empty folder", "name another folder")
         facts = facts_of(arguments, program_folder)
-        with folder.beside(target_folder) as new:
+        with folder_beside(target_folder, folder.BESIDE_PLACE) as new:
             # whoever has two files looks at the doubts on the page
             filled = folder.filled(new.folder, facts.vote, [facts], program_folder, is_forced=True)
             new.take_place(target_folder)

@@ -3,12 +3,9 @@
 For each question debvote is started at most six times, in a secret vote four times.
 """
 
-import contextlib
-import dataclasses
 import itertools
 import pathlib
 import runpy
-import shutil
 import sys
 from collections.abc import Collection, Iterable, Iterator, Mapping, Sequence
 from typing import NamedTuple
@@ -19,14 +16,10 @@ from debvote_tools.cli.faults import Fault, Status, bad_words, stop_at
 from debvote_tools.debvote import Answer, Debvote, findings_in
 from debvote_tools.files import (
     TEMPORARY,
-    folder_beside,
-    locked,
     naming,
     real_place,
-    remove_left,
     sha256_of,
     sync_folder,
-    temporary_folder,
     write_public,
 )
 from debvote_tools.poll.questions import Questions, place_of
@@ -69,34 +62,6 @@ class Filled(NamedTuple):
     letter: bytes
 
 
-@dataclasses.dataclass
-class NewFolder:
-    """A folder beside its place."""
-
-    folder: pathlib.Path
-    # the book has its act: if it gets no place now, the next run sees that it got none
-    is_in_book: bool = False
-
-    def take_place(self, target_folder: pathlib.Path) -> None:
-        """Moves the folder to its place, and removes a published folder that is there, and what
-        killed runs have left beside it.
-        """
-        place = real_place(target_folder)
-        if place.is_dir():
-            with locked(place, is_directory=True):
-                aside = temporary_folder(place.parent, BESIDE_PLACE)
-                place.rename(aside)
-                try:
-                    self.folder.rename(place)
-                except OSError:
-                    aside.rename(place)
-                    raise
-        else:
-            self.folder.rename(place)
-        sync_folder(place.parent)
-        remove_left(place, BESIDE_PLACE)
-
-
 def demand_outside(target_folder: pathlib.Path) -> None:
     """Stops at a place within a published folder, or that of a call, which stays as it is."""
     for above in real_place(target_folder).parents:
@@ -107,20 +72,6 @@ def demand_outside(target_folder: pathlib.Path) -> None:
 
 def in_use(target_folder: pathlib.Path, words: str, cure: str) -> Fault:
     return bad_words(target_folder, f"it exists already, and is not {words}", cure)
-
-
-@contextlib.contextmanager
-def beside(target_folder: pathlib.Path) -> Iterator[NewFolder]:
-    """Makes an empty folder beside its place, and removes it at the end unless it was moved, or the
-    book has its act.
-    """
-    with folder_beside(target_folder, BESIDE_PLACE) as made:
-        new = NewFolder(made)
-        try:
-            yield new
-        finally:
-            if not new.is_in_book:
-                shutil.rmtree(new.folder, ignore_errors=True)
 
 
 # ---- what is in it

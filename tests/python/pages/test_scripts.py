@@ -358,11 +358,12 @@ class ScriptsTest(publishing.ResultPageTest):
         self.page_of()
         seen = "[...document.querySelectorAll('.folded')].map((part) => part.children[1].getBoundingClientRect().height > 0)"
         self.sees(f"[{seen}, {unfolded}]", [[True] * 8 + [False], []])
-        # what is typed there stays out, with how to verify, and of long ballots the names
-        self.sees(
+        # what is typed there stays out, with how to verify, and of long ballots the names; what
+        # is not in the window is drawn a moment later
+        window.until(
             """['#Find', '#Count-again-here', '.checks + details > p', '#Checksums code', '.ballots bdi']
-          .map((place) => document.querySelector(place).checkVisibility({ contentVisibilityAuto: true }))""",
-            [False, False, False, True, True],
+          .map((place) => document.querySelector(place).checkVisibility({ contentVisibilityAuto: true }))
+          .join() === 'false,false,false,true,true'"""
         )
         # the first page ends there
         self.sees("getComputedStyle(document.querySelector('.side + .main')).breakBefore", "page")

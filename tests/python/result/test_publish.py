@@ -15,7 +15,8 @@ from unittest import mock
 
 from debvote_tools.book import queries
 from debvote_tools.election import fixed_by
-from debvote_tools.result.folder import NewFolder, beside
+from debvote_tools.files import NewFolder, folder_beside
+from debvote_tools.result.folder import BESIDE_PLACE
 from debvote_tools.text import times
 from debvote_tools.text.language import ENGLISH
 from debvote_tools.text.times import date_in_words
@@ -758,7 +759,7 @@ class OfOpenVotes(OfElections):
                 found = {name: sums[name] for name in last}, len(self.acts()), left()
                 self.assertEqual(found, (last, acts + 1, []))
         # a run that lasts keeps its folder
-        with beside(place) as lasting:
+        with folder_beside(place, BESIDE_PLACE) as lasting:
             (lasting.folder / "poll.toml").touch()
             self.publish()
             self.assertEqual(left(), [lasting.folder.name])

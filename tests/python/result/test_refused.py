@@ -9,8 +9,8 @@ import time
 from unittest import mock
 
 from debvote_tools.debvote import Debvote
-from debvote_tools.files import left_beside, remove_left
-from debvote_tools.result.folder import BESIDE_PLACE, NewFolder
+from debvote_tools.files import NewFolder, left_beside, remove_left
+from debvote_tools.result.folder import BESIDE_PLACE
 
 from tests.support import page_parts, publishing
 from tests.support.publishing import FILES, PLAIN_POLL, PROGRAM, plain_room, publish, publish_files
@@ -203,7 +203,7 @@ class RefusedTest(publishing.PublishTest):
         late = mock.Mock(rename=after_another_run)
         for new in (self.scratch / "before" / "none", late):
             with self.assertRaises(FileNotFoundError):
-                NewFolder(new).take_place(place)
+                NewFolder(new, BESIDE_PLACE).take_place(place)
             self.assertEqual([*place.parent.iterdir()], [place])
             self.assertEqual([*place.iterdir()], [place / "index.html"])
 
