@@ -98,8 +98,8 @@ def sealed_polls(book: Book, name: str, number: int) -> dict[str, bytes]:
 
 
 def labels_of(book: Book) -> list[str]:
-    """The labels of the questions, as lines have them: of one alone, which has none, or is the only
-    one that is seen, it is empty.
+    """The labels of the questions, as lines have them; an empty one if there is one question, or
+    the book shows one alone.
     """
     polls = "(name = 'poll' OR name GLOB 'poll ?')"
     rows = book.rows(

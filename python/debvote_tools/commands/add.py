@@ -20,7 +20,7 @@ from debvote_tools.cli.console import (
     tell,
     tell_many,
 )
-from debvote_tools.cli.faults import Fault, bad_words, stop_at
+from debvote_tools.cli.faults import Fault, bad_arguments, stop_at
 from debvote_tools.debvote import TABLE
 from debvote_tools.election import Election, History
 from debvote_tools.grouping import grouped
@@ -72,12 +72,12 @@ def add(election: Election, arguments: Arguments) -> None:
         election.demand_right_book(arguments)
     vote = Vote(election)
     if arguments.box and arguments.files:
-        raise bad_words("--box", "it takes no file", "add files by a command of their own")
+        raise bad_arguments("--box", "it takes no file", "add files by a command of their own")
     letters, files = ([], []) if arguments.box else read_files(election, arguments.files)
     if files:
         take_lines(vote, files, arguments)
     elif of_lines := given(arguments, "force", "came_before_close"):
-        raise bad_words(
+        raise bad_arguments(
             ", ".join(of_lines), "only for lines, and these are letters", "leave this out"
         )
     else:
@@ -338,11 +338,11 @@ def look(vote: Vote, files: Sequence[FileLines], arguments: Arguments) -> None:
     came_before_close = arguments.came_before_close != "no"
     with vote.book.snapshot():
         new = new_lines(vote, files, came_before_close)
-        counting = queries.what_counts(vote.book)
+        counted_answers = queries.what_counts(vote.book)
         first = queries.last_envelope(vote.book) + 1
     lines = [(line.as_entered, line.why_refused) for line in new.lines]
     numbers = range(first, first + len(lines))
-    replies = [*replies_to(lines, counting, is_late=new.is_late)]
+    replies = [*replies_to(lines, counted_answers, is_late=new.is_late)]
     if new.history.is_reopened and arguments.came_before_close is None:
         tell(
             "Note: add will ask whether these lines came before the close; this preview assumes that they did."

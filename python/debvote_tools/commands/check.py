@@ -30,7 +30,7 @@ from debvote_tools.call.members import AGAIN, Roll, label_of, roll_of
 from debvote_tools.call.tellers import fingerprints, for_tellers, tellers_in
 from debvote_tools.cli.arguments import Options, option
 from debvote_tools.cli.console import count_of, listed, quorum_words, say, shown_text, tell, wrapped
-from debvote_tools.cli.faults import Fault, bad_words, kept_in, stop_at
+from debvote_tools.cli.faults import Fault, bad_arguments, kept_in, stop_at
 from debvote_tools.commands.export import demand_new
 from debvote_tools.election import (
     LETTER_TEXT,
@@ -280,7 +280,7 @@ def faults_of_ballots(
         lines = text.splitlines()
         reading = reading_of(lines, names)
         for ballot in () if reading.is_proposed else reading.ballots:
-            yield bad_words(
+            yield bad_arguments(
                 f"{file}:{ballot.number}",
                 f"`{shown_text(lines[ballot.number - 1])}` reads as a ballot",
                 f"write it in another way{THEN}",

@@ -24,7 +24,7 @@ from debvote_tools.cli.console import (
     tell,
     wait_words,
 )
-from debvote_tools.cli.faults import Fault, bad_words, kept_in, stop_at
+from debvote_tools.cli.faults import Fault, bad_arguments, kept_in, stop_at
 from debvote_tools.election import Election, History
 from debvote_tools.grouping import grouped
 from debvote_tools.inbox import letter_words
@@ -152,18 +152,18 @@ def demand_words(arguments: Arguments) -> bool:
     """Whether it is an act. Stops if the options do not go together."""
     chosen = given(arguments, "enter", "typed", "set_aside", "wait")
     if len(chosen) > 1:
-        raise bad_words(
+        raise bad_arguments(
             "held",
             "it does one thing at a time",
             "give only one of --enter, --as, --set-aside and --wait",
             None,
         )
     if arguments.typed is not None and len(arguments.numbers) != 1:
-        raise bad_words("--as", "a line is of one letter", "name one number before --as")
+        raise bad_arguments("--as", "a line is of one letter", "name one number before --as")
     if chosen and not arguments.numbers:
-        raise bad_words("held", "no letter is named", "name its number")
+        raise bad_arguments("held", "no letter is named", "name its number")
     if not arguments.set_aside and any(len(row) != 1 for row in arguments.numbers):
-        raise bad_words("held", "only --set-aside takes several in a row", "name each number")
+        raise bad_arguments("held", "only --set-aside takes several in a row", "name each number")
     return bool(chosen)
 
 
@@ -192,7 +192,7 @@ def chosen_letters(letters: Sequence[LetterCase], numbers: Sequence[range]) -> l
     named = [row.start for row in numbers if len(row) == 1]
     if unknown := [str(number) for number in named if number not in by_number]:
         place = f"letter {', '.join(unknown)}"
-        raise bad_words(place, "there is no such letter", "held lists the letters that wait")
+        raise bad_arguments(place, "there is no such letter", "held lists the letters that wait")
     return [by_number[number] for number in dict.fromkeys(named)]
 
 
@@ -263,7 +263,7 @@ def enter(vote: Vote, arguments: Arguments) -> None:
     letters = all_letters(vote)
     named = chosen_letters(letters, arguments.numbers)
     if arguments.force and len(named) > 1 and not vote.has_codes:
-        raise bad_words("--force", "it is for one letter", "name one number")
+        raise bad_arguments("--force", "it is for one letter", "name one number")
     typed = typed_ballots(vote, arguments.typed or (), named[0].marked_elector)
     is_asked = is_terminal() and not arguments.yes
     is_each = is_asked and not all(letter.is_nothing_else for letter in named)

@@ -1,7 +1,7 @@
-"""What becomes of each letter, judged anew whenever letters are looked at.
+"""The case of each letter: what becomes of it, judged anew whenever letters are looked at.
 
-It is found by the rules, beside the other letters and the ballots of its elector, and by the vote,
-the electors and the book as they are now.
+A letter is judged by the rules, beside the other letters and the ballots of its elector, and by the
+vote, the electors and the book as they are now.
 """
 
 import bisect

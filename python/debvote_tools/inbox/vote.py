@@ -348,14 +348,14 @@ REPLACED = "replaced"
 
 
 def replies_to(
-    lines: Iterable[tuple[bytes, str | None]], counting: Mapping[str, str], *, is_late: bool
+    lines: Iterable[tuple[bytes, str | None]], counted_answers: Mapping[str, str], *, is_late: bool
 ) -> Iterator[str]:
     """The reply to each line, given with why debvote refuses it, unless it is late: the word with
     which it is refused; or whether a ballot is counted, or has replaced one of its elector, by what
     counts of electors and the lines above. If that differs by question, it says so: `A replaced, B
     counted`.
     """
-    answered = {name: {*ranks_by_label(answers)} for name, answers in counting.items()}
+    answered = {name: {*ranks_by_label(answers)} for name, answers in counted_answers.items()}
     for line, why_refused in lines:
         if refused := LATE_REPLY if is_late else (why_refused or "").partition(":")[0]:
             yield refused

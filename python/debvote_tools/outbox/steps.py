@@ -307,8 +307,8 @@ def unsent_reminders(now: Now) -> set[int]:
     if not since:
         return set()
     after = max(since[0], now.done_until(Step.LETTERS))
-    counting = queries.what_counts(now.book)
-    silent = {elector.number for elector in now.electors if elector.name not in counting}
+    counted_answers = queries.what_counts(now.book)
+    silent = {elector.number for elector in now.electors if elector.name not in counted_answers}
     return silent.intersection(dict(outgoing.unsent(now.book, "reminders", after)))
 
 

@@ -123,7 +123,7 @@ class VoteFacts(NamedTuple):
     desk_lines: Sequence[int] = ()
     # the letter of the last close, unless the vote was opened again: it has the checksum of other
     # ballots
-    closed: bytes | None = None
+    closing_letter: bytes | None = None
     # by the names on the roll, if they are published
     real_names: Mapping[str, str] = {}
     # those that are known before the count, about the whole vote and about each question
@@ -168,7 +168,7 @@ class VoteFacts(NamedTuple):
         vote alone can change the result, and what was done tells of them.
         """
         acts = self.acts_about(labels)
-        if self.closed is not None:
+        if self.closing_letter is not None:
             closes = [number for number, act in enumerate(acts) if act.done == "closed"]
             acts = acts[: closes[-1]]
         return [act for act in acts if act.done == "published"]

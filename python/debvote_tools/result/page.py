@@ -1,4 +1,4 @@
-"""The pages and the letter of a result: what their templates are filled with."""
+"""The pages and the letter of a result: what fills their templates, and what their scripts say."""
 
 import base64
 import functools

@@ -164,7 +164,7 @@ vote/
                 self.stopped(
                     at,
                     "--box: the page needs an address by https that ends in / or .html",
-                    status=Status.BAD_WORDS,
+                    status=Status.BAD_ARGUMENTS,
                 )
 
 
