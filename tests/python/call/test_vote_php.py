@@ -109,7 +109,7 @@ def click(host: Host, number: int, ranks: str = "1,2", name: str = "ada") -> Ans
     return host.send(ballot(name, ranks, number))
 
 
-class ClickTest(BoxTest):
+class ScriptTest(BoxTest):
     def assert_answer(self, answer: Answer, status: int, word: str):
         self.assertEqual((answer.status, answer.word), (status, word))
 
@@ -125,7 +125,7 @@ class ClickTest(BoxTest):
 
 
 @NEEDS_PHP
-class Requests(ClickTest):
+class Requests(ScriptTest):
     def host(self, *settings: str, **how: object) -> Host:
         """In another time zone than that of the records."""
         return super().host("-d", "date.timezone=Asia/Kolkata", *settings, **how)
@@ -330,7 +330,7 @@ class Requests(ClickTest):
 
 
 @NEEDS_PHP
-class Votes(ClickTest):
+class Votes(ScriptTest):
     def test_another_script_over_it_is_asked_at_once(self):
         """A host keeps compiled code, and has to see at once what is new below it."""
 
@@ -389,7 +389,7 @@ class Votes(ClickTest):
 
 
 @NEEDS_PHP
-class Broken(ClickTest):
+class Broken(ScriptTest):
     """The file was cut off, the disk is full or broken."""
 
     @pytest.mark.whole
@@ -477,7 +477,7 @@ class Broken(ClickTest):
 
 @NEEDS_PHP
 @unittest.skipUnless(STRACE, "strace is not installed")
-class Killed(ClickTest):
+class Killed(ScriptTest):
     """Calls of the system fail, and PHP is killed before each of them."""
 
     def traced(self, *how: object) -> Host:

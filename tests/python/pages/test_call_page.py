@@ -68,7 +68,7 @@ FOCUS = """(() => {
 })()"""
 
 
-# opens all that is folded
+# opens what the page folds away, such as how a ballot is written and the checksums of the polls
 UNFOLD = "document.querySelectorAll('details').forEach((node) => { node.open = true; })"
 # whether each option has a box in which a rank is written by hand, and its name is not below it
 BOXES = """[...document.querySelectorAll(".option")].map((option) => { const box = getComputedStyle(option, "::after");
