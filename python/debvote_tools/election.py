@@ -173,7 +173,7 @@ class History(NamedTuple):
 
     @property
     def publications(self) -> list[DoneAct]:
-        """Those since the last close."""
+        """The publications since the last close."""
         close = self.closes[-1].number if self.closes else 0
         return [act for act in self.named("publish") if act.number > close]
 

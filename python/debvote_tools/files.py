@@ -40,7 +40,7 @@ BEGINNINGS = {
 # how each temporary begins, and no file of anybody else: an editor puts its own beside a file, as
 # `.poll.toml.swp`
 TEMPORARY = ".debvote-"
-# that of what a run makes whole beside its place
+# how the name of what a run makes whole beside its place begins
 NEW = f"{TEMPORARY}new-"
 # in seconds; a run locks its folder at once
 NEVER_LOCKED = 60

@@ -125,7 +125,7 @@ class Browser:
 
     def __init__(self):
         self.numbers = itertools.count(1)
-        # those of each window, by its session
+        # the faults of each window, by its session
         self.faults: dict[str | None, list[str]] = collections.defaultdict(list)
         self.room = tempfile.mkdtemp(prefix="debvote-browser-")
         read, self.to_browser = os.pipe()

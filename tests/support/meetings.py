@@ -63,7 +63,7 @@ def text_of(name: str, answers: Answers, form: int) -> str:
 
 
 def normal(ranks: str) -> str:
-    """The same order from 1 on; equal ranks and hyphens stay."""
+    """The ranks of the same order from 1 on; equal ranks and hyphens stay."""
     numbers = sorted({int(rank) for rank in ranks.split(",") if rank != "-"})
     return ",".join(
         rank if rank == "-" else str(numbers.index(int(rank)) + 1) for rank in ranks.split(",")

@@ -193,7 +193,7 @@ class Book:
         return tuple(self.read_acts)
 
     def last_act(self) -> DoneAct:
-        """There always is one: that of `new`."""
+        """The last act; there always is one, that of `new`."""
         return self.acts()[-1]
 
     def last_number(self) -> int:

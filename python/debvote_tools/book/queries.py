@@ -125,7 +125,7 @@ def files_sealed(book: Book, folder: str) -> dict[str, int]:
 
 
 class OwnMark(NamedTuple):
-    """Whose own mark one is, and until when they had it: None of that of now."""
+    """The elector of an own mark, and until when they had it; None if they have it now."""
 
     elector: str
     until: datetime.datetime | None = None
@@ -150,7 +150,7 @@ def last_act_that_sealed(book: Book, name: str) -> int:
 
 
 def acts_since(book: Book, number: int) -> list[tuple[int, str]]:
-    """Number and name of each act since one."""
+    """Number and name of each act after the one of this number."""
     return book.rows("SELECT act, name FROM act WHERE act > ? ORDER BY act", number)
 
 
@@ -218,7 +218,7 @@ class TimedBallot(NamedTuple):
 
     @property
     def labels(self) -> Set[str]:
-        """Those of the questions that it answers."""
+        """The labels of the questions that the ballot answers."""
         return self.ballot.ranks.keys()
 
 
@@ -322,7 +322,7 @@ def lines_to_count(book: Book) -> list[bytes]:
 
 
 def lines_with_refusals(book: Book) -> list[tuple[bytes, str | None]]:
-    """The same lines, each with why debvote refuses it; None of a ballot."""
+    """The lines that debvote counts from, each with why it is refused; None of a ballot."""
     return book.rows("SELECT line, answer FROM ballot ORDER BY envelope")
 
 
@@ -518,7 +518,7 @@ def lines_that_came(book: Book, is_late: bool) -> collections.Counter[bytes]:
 
 
 def came_in_files(book: Book, is_late: bool) -> dict[bytes, list[Envelope]]:
-    """The same as envelopes, by their line; those that are struck or late come last."""
+    """The envelopes that came in files of lines, by their line; struck and late ones come last."""
     found = envelopes(book, IN_FILES, is_late)
     found.sort(key=lambda envelope: envelope.is_late or envelope.is_struck)
     return grouped((envelope.line, envelope) for envelope in found)

@@ -62,8 +62,8 @@ SENTENCES = marked(
         "unsealed": "This browser can't seal a ballot. Open the link in another one.",
     }
 )
-# those that are others in a secret vote, in which nobody is asked to send a ballot by e-mail, and
-# no receipt says what is in it
+# the sentences that differ in a secret vote, in which nobody is asked to send a ballot by e-mail,
+# and no receipt says what is in it
 SECRET_SENTENCES = marked(
     {
         "type_name": "To vote here by a click, open the link in your own letter.",

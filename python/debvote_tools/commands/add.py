@@ -99,7 +99,7 @@ class FileLines:
     file: GivenFile
     lines: Sequence[CheckedLine]
     empty: Sequence[Line]
-    # its columns may stand in another order than the options
+    # whether it is a table, whose columns may stand in another order than the options
     is_table: bool
 
     @property
@@ -109,8 +109,8 @@ class FileLines:
 
 @dataclasses.dataclass(frozen=True)
 class ComparedLines(FileLines):
-    """The same, compared with the book as it is now: the lines that are new, and those that came
-    before, each with what has happened since, if it no longer counts.
+    """A file and its lines, compared with the book as it is now: those that are new, and those that
+    came before, each with what has happened since, if it no longer counts.
     """
 
     new: Sequence[CheckedLine]
@@ -125,7 +125,7 @@ class NewLines:
     timing: Sequence[DoneAct]
     is_late: bool
     files: Sequence[ComparedLines]
-    # those that were late, and would replace ballots in time, each in words
+    # the lines that were late, and would replace ballots in time, each in words
     replacing: Mapping[CheckedLine, str]
 
     @property
@@ -134,7 +134,7 @@ class NewLines:
 
 
 def new_lines(vote: Vote, files: Sequence[FileLines], came_before_close: bool | None) -> NewLines:
-    """It asks nothing of debvote, so it is found again within the act."""
+    """The new lines of files. debvote is not asked, so they are found again within the act."""
     history = vote.history()
     is_late = history.is_late(came_before_close)
     compared = compared_with_book(vote.book, files, is_late)
@@ -456,7 +456,7 @@ def few_ballots(vote: Vote, files: Sequence[FileLines]) -> Iterator[Fault]:
 
 
 def has_few_ballots(lines: Sequence[CheckedLine]) -> bool:
-    """One line alone is looked at by whoever adds it."""
+    """Whether most lines are no ballots; a line alone is looked at by whoever adds it."""
     count = that_came(lines)
     return count > 1 and that_came(filter(is_ballot, lines)) * 2 < count
 

@@ -157,7 +157,7 @@ def checked(election: Election, **announced: object) -> Checked:
 def checked_by_debvote(
     election: Election, questions: Questions, polls: Mapping[str, bytes], letter_text: str
 ) -> Checked:
-    """The same of polls that are in order, with what debvote says of each."""
+    """What a call would seal of polls that are in order, with what debvote says of each."""
     quorums = {
         label: sheet_in(election.debvote.answer("count", poll).text).quorum
         for label, poll in polls.items()
@@ -181,8 +181,8 @@ def drafts_in(election: Election, roll: Sequence[str], faults: list[Fault]) -> d
 
 
 def faults_of_poll(election: Election, draft: DraftPoll, poll_bytes: bytes) -> Iterator[Fault]:
-    """What it lacks, and what debvote says of it; of one that lacks something only which keys no
-    poll has: one of them may be lacking, misspelt.
+    """What a poll lacks, and what debvote says of it; of a poll that lacks something only which
+    keys no poll has: the key that it lacks may be there, misspelt.
     """
     lacking = faults_of_lacking(draft)
     yield from lacking
@@ -274,7 +274,7 @@ def like_answers(
 def faults_of_ballots(
     election: Election, questions: Questions, letter_text: str
 ) -> Iterator[Fault]:
-    """Those that read as ballots: an elector may send one back."""
+    """The lines of texts that read as ballots: an elector may send one back."""
     names = names_of(questions, queries.electors(election.book), election.language)
     for text, file in {**texts_of(questions), letter_text: LETTER_TEXT}.items():
         lines = text.splitlines()

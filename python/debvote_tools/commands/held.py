@@ -149,7 +149,7 @@ def next_words(
 
 
 def demand_words(arguments: Arguments) -> bool:
-    """Whether it is an act. Stops if the options do not go together."""
+    """Whether the options ask for an act. Stops if they do not go together."""
     chosen = given(arguments, "enter", "typed", "set_aside", "wait")
     if len(chosen) > 1:
         raise bad_arguments(
@@ -187,7 +187,7 @@ def all_letters(vote: Vote) -> list[LetterCase]:
 
 
 def chosen_letters(letters: Sequence[LetterCase], numbers: Sequence[range]) -> list[LetterCase]:
-    """Those that are named by a number of their own."""
+    """The letters that are named by a number of their own."""
     by_number = {letter.number: letter for letter in letters}
     named = [row.start for row in numbers if len(row) == 1]
     if unknown := [str(number) for number in named if number not in by_number]:
@@ -197,7 +197,7 @@ def chosen_letters(letters: Sequence[LetterCase], numbers: Sequence[range]) -> l
 
 
 def of_rows(letters: Sequence[LetterCase], numbers: Sequence[range]) -> list[list[LetterCase]]:
-    """Those that wait among several in a row, by their reasons, in the order of the first of
+    """The letters that wait among several in a row, by their reasons, in the order of the first of
     each.
     """
     rows = [row for row in numbers if len(row) != 1]
@@ -243,14 +243,14 @@ MORE = marked("There is more in it than a ballot.")
 
 
 class Chosen(NamedTuple):
-    """Ballots of a letter that are entered. The line of one is 0 if it was typed."""
+    """Ballots of a letter that are entered. The number of a line is 0 if it was typed."""
 
     letter: LetterCase
     lines: Sequence[BallotLine]
 
     @property
     def again(self) -> list[EnteredBallot]:
-        """Those in which answers of these ballots were entered already."""
+        """The ballots by which answers of these were entered already."""
         entered = self.letter.entered_answers
         parts = (part for line in self.lines for part in line.ballot.parts)
         return [*dict.fromkeys(entered[part] for part in parts if part in entered)]
@@ -545,7 +545,7 @@ def why_unsure(letter: LetterCase, beside: ElectorBallots, ballot: TimedBallot) 
 
 
 def why_not_unseen(chosen: Sequence[Chosen]) -> Iterator[Fault]:
-    """There is more in them, which somebody has to see."""
+    """Letters that have more than a ballot in them, which somebody has to see."""
     for letter, _ in chosen:
         if not letter.is_nothing_else:
             yield Fault(

@@ -121,7 +121,7 @@ def publish(election: Election, arguments: Arguments) -> int:
     except WouldDiffer:
         if is_bare and not arguments.force:
             raise
-        # it tells the last one as an earlier one
+        # the new publication tells the last one as an earlier one
         is_new = True
         filled = make(is_new=is_new)
     tell_published(election, filled.outcomes, target, is_new=is_new)

@@ -36,7 +36,7 @@ NO_CHECK_OFF = Finding(
 )
 PAPER_AT_END = re.compile(rb"[\s:]+paper[.!]?\s*$", re.IGNORECASE)
 
-# the same where one of them is answered without its label
+# what is said of a line that is no ballot, where one question is answered without its label
 WITHOUT_LABEL = "a ballot here is a name and its ranks, without a label"
 
 # the reply to a line that came after the close
@@ -54,7 +54,7 @@ class CheckedLine(NamedTuple):
     original: Line
     # with the changes that are allowed
     as_meant: bytes
-    # the same if debvote takes it so, and otherwise without them
+    # as it is meant if debvote takes it so, and otherwise as it came
     as_entered: bytes
     # why debvote refuses it; None if it is a ballot
     finding: Finding | None = None

@@ -233,7 +233,7 @@ def end(visit: Visit) -> Answer:
     return visit.page("ended")
 
 
-# those that need no election, and all
+# the forms that need no election, and all forms
 WITHOUT: Mapping[str, Callable[[Visit], Answer]] = {
     "folder": folder,
     "new": new,

@@ -455,8 +455,8 @@ def results_due(run: Run) -> LettersDue:
 
 
 def subject_of_result(history: History) -> str:
-    """That of a result which differs from an earlier one: a casting vote has decided what was a
-    tie since the last close, or it is corrected. Else none of its own.
+    """The subject of a result that differs from an earlier one: a casting vote has decided what was
+    a tie since the last close, or it is corrected. Else none of its own.
     """
     *before, last = history.since_call("publish")
     subject = ""

@@ -167,7 +167,7 @@ class Mailer:
                 if code in DONE:
                     return letter._replace(state=TAKEN, reply="")
         except smtplib.SMTPDataError as error:
-            # it did not let the letter begin
+            # the server did not let the letter begin
             code, reply = error.smtp_code, error.smtp_error
         except LOST as error:
             words = f"the connection was lost during the letter to {letter.address}"

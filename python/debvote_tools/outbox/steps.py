@@ -606,7 +606,7 @@ def close_words(election: Election, _: Due) -> str:
 
 
 def publish_words(election: Election, due: Due) -> str:
-    """Of a tie with what follows it."""
+    """How to publish; of a tie with what follows it."""
     publish = election.command("publish", *next_place(election))
     if not due.questions:
         return publish

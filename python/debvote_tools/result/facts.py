@@ -87,8 +87,8 @@ class Act(Told):
     labels: Collection[str] | None = None
 
     def told_of(self, labels: Collection[str]) -> "Act":
-        """The same, as it is told of some questions: of several each before its label, in front of
-        which it would look like an answer.
+        """The act, as it is told of some questions: of several each value before its label, in
+        front of which it would look like an answer.
         """
         places = {
             key: ", ".join(
@@ -236,7 +236,7 @@ class Outcome:
 
     @property
     def doubts_of_count(self) -> Iterator[Doubt]:
-        """Those about what came of the question, by the sheet of all lines that came."""
+        """The doubts about what came of the question, by the sheet of all lines that came."""
         sheet = self.facts.private or self.sheet
         label = self.facts.label
         if not sheet.voters:
@@ -251,7 +251,7 @@ class Outcome:
 
     @property
     def doubts(self) -> list[Doubt]:
-        """Those about the question and about the whole vote."""
+        """The doubts about the question and about the whole vote."""
         labels = ("", self.facts.label)
         known = (doubt for doubt in self.facts.vote.doubts if doubt.label in labels)
         return [*self.doubts_of_count, *known]

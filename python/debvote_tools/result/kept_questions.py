@@ -85,7 +85,7 @@ def demand_fixed(fixed: Fixed, kept: KeptQuestion) -> None:
 
 
 def sealed_to_tellers(book: Book, kept: KeptQuestion) -> KeptQuestion:
-    """The same, with the list of the close in place of ballots. Stops if those who are checked off
+    """A question with the list of the close in place of ballots. Stops if those who are checked off
     are others than the close kept.
     """
     if voted_file(kept.counted_answers) != queries.sealed(book, VOTED):

@@ -199,7 +199,7 @@ def doubts_of(
 
 
 def doubts_of_box(election: Election, history: History, *, stops: bool) -> Iterator[Doubt]:
-    """Those about the web box; whether one that was not asked since the end stops."""
+    """The doubts about the web box; whether one that was not asked since the end stops."""
     if is_unasked_since_end(history):
         ask = election.command("add", "--box")
         advice = f"the web box was not asked since the end: run {ask}"

@@ -81,7 +81,7 @@ class Letter:
 
     @property
     def electors(self) -> list[str]:
-        """Those who may have sent it."""
+        """The electors who may have sent the letter."""
         return COUPLE if self.name in COUPLE and not self.is_click else [self.name]
 
 
@@ -195,7 +195,7 @@ class Model:
         return "waits" if self.is_closed else "goes in"
 
     def of_letters(self, is_meant: Callable[[Letter], object]) -> list[Letter]:
-        """Those that are meant, in the order of their times."""
+        """The letters that are meant, in the order of their times."""
         return sorted(filter(is_meant, self.letters), key=lambda one: one.time)
 
     def waiting(self, *, in_time: bool = False) -> list[Letter]:
@@ -311,7 +311,7 @@ class Model:
         ]
 
     def enter(self, ballots: list[Ballot], **how: bool):
-        """One act that enters them, if there are any; their letters are done."""
+        """One act that enters the ballots, if there are any; their letters are done."""
         self.acts += bool(ballots)
         for name, answers, letter in ballots:
             number, closes, time = len(self.envelopes) + 1, len(self.closes), self.now

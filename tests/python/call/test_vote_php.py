@@ -63,7 +63,7 @@ for one in ("enable=1", "enable_cli=1", "validate_timestamps=0", "file_update_pr
 
 
 def digest_of(name: str) -> str:
-    """That of the proof of an elector, as the host knows it."""
+    """The digest of the proof of an elector, as the host knows it."""
     return proof_digest(MARK, place_of(name))
 
 
@@ -93,7 +93,7 @@ BAD = [
     *(ASK[:-1], ASK + b"\n", b"a=" + ASK, *map(request_of, ASKED)),
     *(GOOD[:-1], GOOD + b"\n", GOOD.replace(b"\n", b"\r\n"), b"\xef\xbb\xbf" + GOOD),
     *(b"box=box=" + GOOD, GOOD.replace(b"0" * 30, b"g" * 30)),
-    # that of a page of before, which names no poll
+    # a ballot of a page of before, which names no poll
     GOOD.removeprefix(f"{PAGE} ".encode()),
     *(ballot("ada", "1,2", 77, page=page) for page in (PAGE[:-1], PAGE.upper())),
     # as before ballots were sealed

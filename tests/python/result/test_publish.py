@@ -159,7 +159,7 @@ class OfElections(CalledTest):
         return re.findall(r"(?m)^  ([0-9a-f]{64})$", self.text(f"{place}/closed.txt"))
 
     def messages(self):
-        """Those with the letter of the result, the newest last."""
+        """The messages with the letter of the result, the newest last."""
         self.say("letters result --from vote@x.example")
         files = (self.folder / "letters" / "result").rglob("*.eml")
         return [
