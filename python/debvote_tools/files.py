@@ -176,13 +176,13 @@ def left_beside(place: pathlib.Path, prefix: str) -> list[pathlib.Path]:
     """The folders beside a place that runs have made. Another run may take one away, and that of
     another user can't be read.
     """
-    found = []
+    folders = []
     for left in real_place(place).parent.glob(f"{prefix}*"):
         with contextlib.suppress(OSError):
             # an empty one may be about to be locked
             if any(left.iterdir()) or time.time() - left.stat().st_mtime > NEVER_LOCKED:
-                found.append(left)
-    return found
+                folders.append(left)
+    return folders
 
 
 def remove_left(place: pathlib.Path, prefix: str) -> None:

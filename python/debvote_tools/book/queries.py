@@ -290,7 +290,7 @@ def lost(book: Book) -> list[Envelope]:
     query = "SELECT envelope FROM lost"
     gone = {(number, label) for label in each_question_alone(book) for number, in book.rows(query)}
     chosen = "envelope IN (SELECT value FROM json_each(?))"
-    found = envelopes(book, chosen, json.dumps([number for number, _ in gone]))
+    ballots = envelopes(book, chosen, json.dumps([number for number, _ in gone]))
     return [
         one._replace(
             by_question={
@@ -299,7 +299,7 @@ def lost(book: Book) -> list[Envelope]:
                 if (one.number, label) in gone
             }
         )
-        for one in found
+        for one in ballots
     ]
 
 
@@ -519,9 +519,9 @@ def lines_that_came(book: Book, is_late: bool) -> collections.Counter[bytes]:
 
 def came_in_files(book: Book, is_late: bool) -> dict[bytes, list[Envelope]]:
     """The envelopes that came in files of lines, by their line; struck and late ones come last."""
-    found = envelopes(book, IN_FILES, is_late)
-    found.sort(key=lambda envelope: envelope.is_late or envelope.is_struck)
-    return grouped((envelope.line, envelope) for envelope in found)
+    came = envelopes(book, IN_FILES, is_late)
+    came.sort(key=lambda envelope: envelope.is_late or envelope.is_struck)
+    return grouped((envelope.line, envelope) for envelope in came)
 
 
 def late_beside_others(book: Book) -> dict[bytes, int]:

@@ -290,8 +290,8 @@ def counting_since(
         for line, copies in collections.Counter(map(as_entered, file.lines)).items()
         for envelope in came.get(line, ())[:copies]
     }
-    counting = queries.counting_envelopes(book).items()
-    return {answered: envelope for answered, envelope in counting if envelope[0] not in own}
+    by_answer = queries.counting_envelopes(book).items()
+    return {answer: envelope for answer, envelope in by_answer if envelope[0] not in own}
 
 
 def compared(

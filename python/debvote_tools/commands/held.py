@@ -404,16 +404,16 @@ def lines_of(vote: Vote, text: str) -> list[Line]:
 def ballot_in_typed(vote: Vote, text: str) -> Ballot:
     """The ballot in what was typed."""
     lines = lines_of(vote, text)
-    answer = "it is not one line"
+    said = "it is not one line"
     if len(lines) == 1 and not lines[0].is_empty:
         # of several answers the last line is one that is refused
         *_, line = vote.checked_lines(lines)
         if (finding := line.lasting) is None:
             return line.ballot
-        answer = private(line.why_unclear or finding.answer)
+        said = private(line.why_unclear or finding.answer)
     raise Fault(
         "--as",
-        f"`{shown_line(text.encode('utf-8', 'backslashreplace'))}` is no ballot of this poll: {answer}",
+        f"`{shown_line(text.encode('utf-8', 'backslashreplace'))}` is no ballot of this poll: {said}",
         right_words(vote),
     )
 

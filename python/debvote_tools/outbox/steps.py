@@ -334,9 +334,9 @@ def not_reached(now: Now) -> Iterator[Due]:
         return
     if not (outgoing.was_refused(now.book) or any(case.read.returned for case in now.cases)):
         return
-    rows, _ = unreached_and_printed(now.election, now.history)
+    by_mail, _ = unreached_and_printed(now.election, now.history)
     done = now.done_until(Step.NOT_REACHED)
-    failed = [one.elector.name for one in rows if one.why != NO_LETTER and one.act > done]
+    failed = [one.elector.name for one in by_mail if one.why != NO_LETTER and one.act > done]
     if number := len(set(failed) - queries.what_counts(now.book).keys()):
         yield Due(Step.NOT_REACHED, number)
 

@@ -284,9 +284,9 @@ class Composer:
             for fault in self.faults(line.answer, name)
         )
 
-    def faults(self, answer: str | None, name: str) -> Iterator[str]:
+    def faults(self, verdict: str | None, name: str) -> Iterator[str]:
         is_of_several = self.call_data.questions.is_several
-        return faults_of(answer, name, self.language, is_of_several=is_of_several)
+        return faults_of(verdict, name, self.language, is_of_several=is_of_several)
 
 
 def is_on_paper(elector: Elector) -> bool:

@@ -143,9 +143,9 @@ def demand_own_lines(book: Book, roll: Collection[str]) -> None:
             raise Fault(book.path, words, KEEP)
 
 
-def demand_same_verdicts(election: Election, answer: object, kept: object) -> None:
+def demand_same_verdicts(election: Election, said: object, kept: object) -> None:
     """Stops if debvote says another thing of the lines than the book keeps of it."""
-    if answer != kept:
+    if said != kept:
         words = "debvote says of its lines another thing than it keeps: a verdict was changed, or another version of debvote judges"
         raise Fault(election.book.path, words, KEEP)
 

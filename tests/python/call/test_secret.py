@@ -281,7 +281,7 @@ class Slips(unittest.TestCase):
                 show(dataclasses.replace(call, language=language_of(code)), electors)
                 self.assertEqual(window.ask("document.documentElement.scrollWidth"), 390)
         # eight on a side of A4, with margins of 5 mm, in words of nine points at least
-        window.show(on_paper=True)
+        window.show(is_printed=True)
         window.resize(756, 1000)
         call_of_slips = dataclasses.replace(
             CALL, at="https://example.org/vote/", has_lapsed_codes=True
