@@ -1,8 +1,7 @@
-"""What is asked of the book, and the rows that acts add.
+"""What is asked of the book about electors, envelopes and letters, and the rows that acts add.
 
-Electors, what is sealed, envelopes and their lines, sources, and letters that came. `entered`,
-`ballot` and what is so `_now` are views of `schema.sql`, what became of envelopes those of
-`views.sql`.
+What is sealed, and sources, are asked for here, too. `entered`, `ballot` and what is so `_now` are
+views of `schema.sql`, what became of envelopes those of `views.sql`.
 """
 
 import collections

@@ -1,9 +1,10 @@
-"""The tellers of a secret vote, by whom nobody can tell whose a ballot is.
+"""The tellers of a secret vote: their keys, what is sealed to them, and the lists that they open.
 
-The page seals the ranks, with a number that the elector alone knows, to one teller after another,
-the last one first, and all that with the link to the secretary. So the book has who has a ballot,
-and what is in it only once it is one of many: `Election.questions` are the check-off below, under
-names, and the poll that everybody sees has a place for each elector.
+Nobody can tell whose a ballot is: the page seals the ranks, with a number that the elector alone
+knows, to one teller after another, the last one first, and all that with the link to the secretary.
+So the book has who has a ballot, and what is in it only once it is one of many:
+`Election.questions` are the check-off below, under names, and the poll that everybody sees has a
+place for each elector.
 
 A list is the text that a teller is given, and hands on: `list-0.txt` is that of the close, each
 other one is signed by the teller who made it. `lists.py` reads and checks them.

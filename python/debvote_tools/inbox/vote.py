@@ -1,4 +1,4 @@
-"""The vote, as debvote is asked about its lines."""
+"""The vote as lines meet it: whose each is, what debvote says of it, and the reply to it."""
 
 import functools
 import re

@@ -1,4 +1,4 @@
-"""A request, and what answers it."""
+"""A request, with the election and the command that it is about, and its answer, such as a page."""
 
 import contextlib
 import dataclasses

@@ -1,4 +1,4 @@
-"""Which letters of a kind are due, and what each says."""
+"""Which letters of a kind are due: to whom, for which act, and what each is about."""
 
 import dataclasses
 import datetime

@@ -1,4 +1,4 @@
-"""Ballot files, a ballot in words, and why a line is none.
+"""A ballot as a value, as a line of a file, and in words; and why a line is none.
 
 Ranks are spelled as `standing` and the ballot file spell them, such as `1,2,-,3`.
 """
