@@ -5,5 +5,5 @@ a ballot and what the sheet is, all of that `debvote` is asked, and its answers 
 docs/FORMATS.md.
 """
 
-# that of debvote, with which these programs come in one package
+# the version of debvote, with which these programs come in one package
 VERSION = "3.0.0"

@@ -20,7 +20,7 @@ class Answer(NamedTuple):
 
     @property
     def refusal(self) -> str:
-        """Why debvote did not do it, without its name."""
+        """Why debvote did not do what it was asked for, without its own name."""
         return self.faults.strip().removeprefix("debvote: ")
 
 

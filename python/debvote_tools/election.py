@@ -11,7 +11,7 @@ from debvote_tools.book import queries
 from debvote_tools.book.book import BOOK_FILE, ActName, Book, DoneAct, damaged, from_text, open_book
 from debvote_tools.cli.arguments import Acting, demand_reason
 from debvote_tools.cli.console import WHOSE, ZONE, tell_aside
-from debvote_tools.cli.faults import NOTHING_CHANGED, Fault, Status, bad_words, stop_at
+from debvote_tools.cli.faults import NOTHING_CHANGED, Fault, Status, bad_arguments, stop_at
 from debvote_tools.debvote import Debvote
 from debvote_tools.files import real_place
 from debvote_tools.poll.questions import Questions, read_questions
@@ -173,7 +173,7 @@ class History(NamedTuple):
 
     @property
     def publications(self) -> list[DoneAct]:
-        """Those since the last close."""
+        """The publications since the last close."""
         close = self.closes[-1].number if self.closes else 0
         return [act for act in self.named("publish") if act.number > close]
 
@@ -369,7 +369,7 @@ class Election:
         for name in names:
             if real_place(target).is_relative_to(real_place(self.path(name))):
                 words = f"it would be in the folder {name}, whose files go to others"
-                raise bad_words(target, words, "name a place outside that folder", done)
+                raise bad_arguments(target, words, "name a place outside that folder", done)
 
     def command(self, *words: str) -> str:
         folder = [] if self.folder == pathlib.Path() else ["--folder", str(self.folder)]
@@ -387,4 +387,4 @@ def no_book(folder: pathlib.Path) -> Fault:
     elif (place.parent / BOOK_FILE).is_file() and place.name in MADE:
         words = "the election is one folder up"
         cure = "go there with cd .., then run the command again"
-    return bad_words(folder, words, cure, None)
+    return bad_arguments(folder, words, cure, None)

@@ -14,7 +14,7 @@ import time
 from collections.abc import Collection, Iterator, Mapping
 from typing import BinaryIO
 
-from debvote_tools.cli.faults import Fault, Status, bad_words
+from debvote_tools.cli.faults import Fault, Status, bad_arguments
 from debvote_tools.cli.console import number_of, odd_sign
 
 # in bytes and in lines; of a longer file a byte more is read, so that debvote says that it is too
@@ -40,7 +40,7 @@ BEGINNINGS = {
 # how each temporary begins, and no file of anybody else: an editor puts its own beside a file, as
 # `.poll.toml.swp`
 TEMPORARY = ".debvote-"
-# that of what a run makes whole beside its place
+# how the name of what a run makes whole beside its place begins
 NEW = f"{TEMPORARY}new-"
 # in seconds; a run locks its folder at once
 NEVER_LOCKED = 60
@@ -69,12 +69,12 @@ def read_whole(
     try:
         mode = os.stat(file).st_mode
         if not (may_wait or stat.S_ISREG(mode) or stat.S_ISDIR(mode)):
-            raise bad_words(file, "it is no plain file", unread + then, None)
+            raise bad_arguments(file, "it is no plain file", unread + then, None)
         data = read_at_most(file, limit)
     except OSError as error:
-        raise bad_words(file, error.strerror, unread + then, None) from None
+        raise bad_arguments(file, error.strerror, unread + then, None) from None
     if len(data) > limit:
-        raise bad_words(file, f"it is longer than {limit} bytes", f"shorten it{then}", None)
+        raise bad_arguments(file, f"it is longer than {limit} bytes", f"shorten it{then}", None)
     return data
 
 
@@ -98,20 +98,20 @@ def read_text(
         text = data.decode().removeprefix("\ufeff").replace("\r\n", "\n")
     except UnicodeDecodeError as error:
         line = data.count(b"\n", 0, error.start) + 1
-        raise bad_words(
+        raise bad_arguments(
             f"{file}:{line}", "it is not in UTF-8", f"save it as plain text in UTF-8{then}", None
         ) from None
     odd = odd_sign(text, allowed="\t\n", refused=refused)
     if odd is not None:
         line = text.count("\n", 0, text.index(odd)) + 1
-        raise bad_words(
+        raise bad_arguments(
             f"{file}:{line}",
             f"it has the character {number_of(odd)}, which no plain text has",
             f"take it out{then}",
             None,
         )
     if not text.strip():
-        raise bad_words(file, "it is empty", empty + then, None)
+        raise bad_arguments(file, "it is empty", empty + then, None)
     return text
 
 
@@ -176,13 +176,13 @@ def left_beside(place: pathlib.Path, prefix: str) -> list[pathlib.Path]:
     """The folders beside a place that runs have made. Another run may take one away, and that of
     another user can't be read.
     """
-    found = []
+    folders = []
     for left in real_place(place).parent.glob(f"{prefix}*"):
         with contextlib.suppress(OSError):
             # an empty one may be about to be locked
             if any(left.iterdir()) or time.time() - left.stat().st_mtime > NEVER_LOCKED:
-                found.append(left)
-    return found
+                folders.append(left)
+    return folders
 
 
 def remove_left(place: pathlib.Path, prefix: str) -> None:

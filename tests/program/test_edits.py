@@ -399,7 +399,7 @@ class Toy:
     def __init__(self, folder, monkeypatch):
         self.root = folder / "root"
         self.store = folder / "store"
-        self.rooms = (folder / str(number) for number in range(9))
+        self.trial_folders = (folder / str(number) for number in range(9))
         for path, text in CRATES.items():
             file = self.root / "crates" / path
             file.parent.mkdir(parents=True, exist_ok=True)
@@ -419,9 +419,10 @@ class Toy:
         file.write_text(file.read_text().replace(old, new))
 
     def trial(self, from_nothing=False):
-        room = next(self.rooms)
-        tool().copy_to(room / "repository", [])
-        return tool().trials_of([], room, room / "repository", from_nothing)[0]["above"]
+        trial_folder = next(self.trial_folders)
+        repository = trial_folder / "repository"
+        tool().copy_to(repository, [])
+        return tool().trials_of([], trial_folder, repository, from_nothing)[0]["above"]
 
     def run(self, *given):
         """The names of the edits that fail, and of those that are kept."""
@@ -541,7 +542,7 @@ def test_with_an_older_kit_all_is_proved_again_if_anything_has_changed(tmp_path,
     def proves(is_from_nothing=False):
         number = len(begun)
         built.unlink(missing_ok=True)
-        assert tool().prove_and_try([], next(toy.rooms), is_from_nothing)[0] == 0
+        assert tool().prove_and_try([], next(toy.trial_folders), is_from_nothing)[0] == 0
         assert built.read_text() == "program"
         return len(begun) > number
 

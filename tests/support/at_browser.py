@@ -125,9 +125,9 @@ class Browser:
 
     def __init__(self):
         self.numbers = itertools.count(1)
-        # those of each window, by its session
+        # the faults of each window, by its session
         self.faults: dict[str | None, list[str]] = collections.defaultdict(list)
-        self.room = tempfile.mkdtemp(prefix="debvote-browser-")
+        self.profile = tempfile.mkdtemp(prefix="debvote-browser-")
         read, self.to_browser = os.pipe()
         from_browser, write = os.pipe()
         words = [
@@ -139,7 +139,7 @@ class Browser:
             str(write),
             str(BROWSER),
             *FLAGS,
-            f"--user-data-dir={self.room}",
+            f"--user-data-dir={self.profile}",
             "about:blank",
         ]
         self.process = subprocess.Popen(
@@ -155,7 +155,7 @@ class Browser:
         os.close(self.to_browser)  # it ends if nobody speaks to it
         self.process.wait(60)
         self.answers.close()
-        shutil.rmtree(self.room, ignore_errors=True)
+        shutil.rmtree(self.profile, ignore_errors=True)
 
     def tell(self, session: str | None, method: str, **given: object) -> dict[str, Any]:
         """Makes a call of chromium's protocol for a window, or for the browser, and returns the
@@ -234,10 +234,12 @@ class Window:
             mobile=False,
         )
 
-    def show(self, *, is_dark: bool = False, on_paper: bool = False):
+    def show(self, *, is_dark: bool = False, is_printed: bool = False):
         """From now on pages are shown in a light or in a dark scheme, or as they are printed."""
         scheme = [{"name": "prefers-color-scheme", "value": "dark" if is_dark else "light"}]
-        self.tell("Emulation.setEmulatedMedia", media="print" if on_paper else "", features=scheme)
+        self.tell(
+            "Emulation.setEmulatedMedia", media="print" if is_printed else "", features=scheme
+        )
 
     def tell(self, method: str, **given: object) -> dict[str, Any]:
         """Makes a call of chromium's protocol, and returns the answer."""

@@ -103,7 +103,7 @@ class BoxElectionTest(elections.ElectionTest):
         return ended
 
     def mark(self) -> str:
-        """That of the poll."""
+        """The mark of the poll."""
         return self.of_this_vote(elections.ANY_MARK.encode()).decode()
 
     def upload(self):
@@ -144,7 +144,7 @@ class BoxElectionTest(elections.ElectionTest):
 
     @property
     def key(self) -> bytes:
-        """That of the box."""
+        """The key of the box."""
         [(key,)] = self.rows("SELECT data FROM sealed WHERE name = 'box key'")
         assert isinstance(key, bytes)
         return key
@@ -258,7 +258,7 @@ class BoxElectionTest(elections.ElectionTest):
         return self.done(*words).output
 
     def tells(self, typed: str, *parts: str, **how: Any) -> str:
-        """The same of a command as it is typed; it has these parts."""
+        """What a command says as it is typed; it has these parts."""
         said = self.done(typed, **how).output
         for part in parts:
             self.assertIn(part, said)

@@ -254,7 +254,7 @@ class LettersTest(CalledTest):
 
     @property
     def mark(self) -> str:
-        """That of the poll, which everybody sees."""
+        """The mark of the poll, which everybody sees."""
         return hashlib.sha256(self.read("call/poll.toml")).hexdigest()[:16]
 
     def exported(self) -> tuple[str, str]:

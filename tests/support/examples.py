@@ -83,10 +83,10 @@ def elections(scratch):
         ("recasts", "ada 1,2,3\nada 2,1,3\n", 2),
         ("late", "ada 1,2,3\nben 2,1,3\nada 2,1,3\nben 1,2,3\n", 3),
     ]:
-        room = publishing.plain_room(
+        made = publishing.plain_folder(
             scratch / f"of-{name}", f"{publishing.PLAIN_POLL}last_envelope = {last}\n", ballots
         )
-        yield name, room / "poll.toml", room / "ballots", []
+        yield name, made / "poll.toml", made / "ballots", []
     poll, ballots = scratch / "poll.toml", scratch / "ballots"
     poll.write_text(HOSTILE_POLL)
     ballots.write_text(HOSTILE_BALLOTS)

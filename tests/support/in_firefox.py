@@ -92,13 +92,13 @@ class Browser:
     def __init__(self):
         self.numbers = itertools.count(1)
         self.faults: list[str] = []
-        self.room = tempfile.mkdtemp(prefix="debvote-firefox-")
-        words = [str(FIREFOX), "--headless", "--no-remote", "--profile", self.room]
+        self.profile = tempfile.mkdtemp(prefix="debvote-firefox-")
+        words = [str(FIREFOX), "--headless", "--no-remote", "--profile", self.profile]
         self.process = subprocess.Popen(
             [*words, "--remote-debugging-port=0"],
             stdout=subprocess.DEVNULL,
             stderr=subprocess.PIPE,
-            env={**os.environ, "HOME": self.room},
+            env={**os.environ, "HOME": self.profile},
             start_new_session=True,
         )
         atexit.register(self.end)
@@ -110,7 +110,7 @@ class Browser:
     def end(self):
         self.process.kill()
         self.process.wait(60)
-        shutil.rmtree(self.room, ignore_errors=True)
+        shutil.rmtree(self.profile, ignore_errors=True)
 
     def tell(self, method: str, **given: object) -> dict[str, Any]:
         """Makes a call of the protocol, and returns the answer."""

@@ -352,7 +352,7 @@ def calls_while_judged(letters: Sequence[ReadLetter]) -> int:
 
 
 def calls_while_read(data: bytes, **of_names: object) -> int:
-    """The same while a letter is read, where all ranks are valid, the second time."""
+    """How many functions are called while a letter is read, all ranks valid, the second time."""
     its_names = names(**of_names)
     [(_, _), (_, calls)] = (
         counted(lambda: with_texts([parsed(data)], its_names, dict.fromkeys)) for _ in range(2)
@@ -384,7 +384,7 @@ def how_entered(one: LetterCase) -> str:
 
 
 def outcomes(*letters: bytes | ParsedLetter, **other: object) -> list[str]:
-    """The same of several, in the order of their times."""
+    """The outcome of each of several letters, in the order of their times."""
     return [outcome(one) for one in judged(*letters, **other)]
 
 

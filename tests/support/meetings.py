@@ -63,7 +63,7 @@ def text_of(name: str, answers: Answers, form: int) -> str:
 
 
 def normal(ranks: str) -> str:
-    """The same order from 1 on; equal ranks and hyphens stay."""
+    """The ranks of the same order from 1 on; equal ranks and hyphens stay."""
     numbers = sorted({int(rank) for rank in ranks.split(",") if rank != "-"})
     return ",".join(
         rank if rank == "-" else str(numbers.index(int(rank)) + 1) for rank in ranks.split(",")
@@ -141,9 +141,9 @@ class MeetingTest(boxes.BoxElectionTest):
         """
         self.demand_whole(last)
         for label in self.polls:
-            counting = {name: its[label] for name, its in self.wanted.items() if label in its}
+            counted = {name: its[label] for name, its in self.wanted.items() if label in its}
             folder = tied if label == "G" else last
-            self.demand_count(folder, label, answering(label, self.entered), counting)
+            self.demand_count(folder, label, answering(label, self.entered), counted)
             digest = hashlib.sha256(self.read(f"{last}/{label}/ballots.txt")).hexdigest()
             self.assertIn(f"{digest} {label}/ballots.txt", closing)
         sheet = self.read(f"{last}/G/sheet.txt").decode()
@@ -166,14 +166,14 @@ class MeetingTest(boxes.BoxElectionTest):
         there = {str(file.relative_to(result)) for file in result.rglob("*") if file.is_file()}
         self.assertEqual(there - listed, {"SHA256SUMS"})
 
-    def demand_count(self, folder: str, label: str, lines: list[str], counting: Answers):
+    def demand_count(self, folder: str, label: str, lines: list[str], counted_answers: Answers):
         """The sheet of a question is that of an election of its own with the same answers, by the second program."""
         place = self.folder / folder / label
         self.write("single", "".join(f"{line}\n" for line in lines))
         words = ("count", "--poll", place / "poll.toml", "--ballots", self.folder / "single")
         sheet = self.run_program(sys.executable, REFERENCE, *words).output
         self.assertEqual((place / "sheet.txt").read_text(), sheet)
-        standing = [f"{name} {counting[name]}" for name in sorted(counting)]
+        standing = [f"{name} {counted_answers[name]}" for name in sorted(counted_answers)]
         self.assertEqual((place / "standing.txt").read_text().splitlines(), standing)
 
     def demand_pages(self, folder: str):

@@ -274,7 +274,7 @@ class Reasons:
         return chains[self.winner if self.winner in chains else min(within & chains.keys())]
 
     def beaten(self):
-        """Those whom the winner beats by defeats that hold, the nearest first."""
+        """The options that the winner beats by defeats that hold, the nearest first."""
         return sorted(
             (self.votes[pair] - self.votes[pair[::-1]], pair[1])
             for pair in self.count.defeats - {*self.removed}
@@ -766,7 +766,7 @@ class Parts(Reasons):
             demand_equal(f"row {a}", cells, wanted)
 
     def defeats(self):
-        """Their sentences, in which numbers are bold."""
+        """The sentences of the defeats, in which numbers are bold."""
         pairs = sorted(self.count.defeats)
         wanted = [
             (self.defeat(pair), [str(self.votes[pair]), str(self.votes[pair[::-1]])])
@@ -889,8 +889,8 @@ def least_of(count):
 
 
 def few(rows):
-    """Those that have a row of their own in the panel: two, or all three, so that never one alone
-    is not named.
+    """The rows that options have of their own in the panel: two, or all three, so that never one
+    alone is not named.
     """
     return rows if len(rows) == 3 else rows[:2]
 

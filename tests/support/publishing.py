@@ -51,11 +51,11 @@ def run(words, path=PATH, **how):
     return ended.stdout, ended.stderr, ended.returncode
 
 
-def publish(room, *words, **how):
+def publish(folder, *words, **how):
     """The output of debvote-publish in a folder, without that about a picture that can't be drawn
     here, and its status.
     """
-    output, faults, status = run([sys.executable, PUBLISH, *words], cwd=room, **how)
+    output, faults, status = run([sys.executable, PUBLISH, *words], cwd=folder, **how)
     return output, faults if HAS_PICTURES else faults.replace(NO_PICTURE, ""), status
 
 
@@ -66,14 +66,14 @@ def publish_files(poll, ballots, folder, *more, **how):
     )
 
 
-def room_with(folder, example):
+def folder_with(folder, example):
     """A folder with the two files of an example."""
-    return plain_room(
+    return plain_folder(
         folder, *((EXAMPLES / example / name).read_text() for name in ("poll.toml", "ballots"))
     )
 
 
-def plain_room(folder, poll=PLAIN_POLL, ballots=PLAIN_BALLOTS):
+def plain_folder(folder, poll=PLAIN_POLL, ballots=PLAIN_BALLOTS):
     folder.mkdir(parents=True)
     (folder / "poll.toml").write_bytes(poll.encode())
     (folder / "ballots").write_bytes(ballots.encode())
@@ -127,9 +127,9 @@ class ResultPageTest(PublishTest):
         super().setUpClass()
         cls.window = cls.enterClassContext(at_browser.Window(800, 900))
 
-    def page_of(self, room=None, change=None):
+    def page_of(self, folder=None, change=None):
         """The window, with the page, in which the first text of a change is the other one."""
-        text = ((room or self.room) / "result" / "index.html").read_text()
+        text = ((folder or self.folder) / "result" / "index.html").read_text()
         changed = text.replace(*change, 1) if change else text
         self.assertEqual(changed != text, change is not None)
         # a changed page would not run, since its policy names its scripts
@@ -138,22 +138,22 @@ class ResultPageTest(PublishTest):
         self.window.open(file)
         return self.window
 
-    def published(self, room, name, **changes):
-        """A room with the result of the files of another one, with what an election adds to
+    def published(self, place, name, **changes):
+        """A folder with the result of the files of another one, with what an election adds to
         them.
         """
         programs = PROGRAM.parent
-        files = {"poll": str(room / "poll.toml"), "ballots": str(room / "ballots")}
+        files = {"poll": str(place / "poll.toml"), "ballots": str(place / "ballots")}
         facts = command_line.facts_of(
             command_line.Arguments(**files, casting=None, desks=1, language="en", target="result"),
             programs,
         )
         of_vote = {key: changes.pop(key) for key in [*changes] if key in facts.vote._fields}
         vote = facts.vote._replace(**of_vote)
-        made_room = plain_room(self.scratch / name)
-        with folder_beside(made_room / "result", folder.BESIDE_PLACE) as new:
+        made_folder = plain_folder(self.scratch / name)
+        with folder_beside(made_folder / "result", folder.BESIDE_PLACE) as new:
             folder.filled(
                 new.folder, vote, [facts._replace(vote=vote, **changes)], programs, is_forced=True
             )
-            new.take_place(made_room / "result")
-        return made_room
+            new.take_place(made_folder / "result")
+        return made_folder

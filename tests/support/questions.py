@@ -1,4 +1,4 @@
-"""Elections of several questions."""
+"""Elections of several questions, and their lines and sheets taken apart by question."""
 
 import itertools
 import pathlib

@@ -74,7 +74,7 @@ class Answer(NamedTuple):
 
 
 def request_of(*lines: str) -> bytes:
-    """That of a request with these lines."""
+    """The body of a request with these lines."""
     return "".join(f"{line}\n" for line in lines).encode()
 
 

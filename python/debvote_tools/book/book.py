@@ -19,7 +19,7 @@ from typing import Any, Final, Literal, NamedTuple
 from debvote_tools.book import chain
 from debvote_tools.book.machine_note import MachineNote, Note, machine_of
 from debvote_tools.cli.console import ENDED
-from debvote_tools.cli.faults import Fault, Status, bad_words, kept_in
+from debvote_tools.cli.faults import Fault, Status, bad_arguments, kept_in
 from debvote_tools.files import read_at_most, uninterrupted, whole_folder
 from debvote_tools.text import times
 from debvote_tools.text.addresses import address_in
@@ -193,7 +193,7 @@ class Book:
         return tuple(self.read_acts)
 
     def last_act(self) -> DoneAct:
-        """There always is one: that of `new`."""
+        """The last act; there always is one, that of `new`."""
         return self.acts()[-1]
 
     def last_number(self) -> int:
@@ -491,11 +491,11 @@ def demand_version(path: pathlib.Path) -> None:
         raise damaged(path, "it is no database of SQLite")
     if not has_our_id(head):
         cure = "name the folder of an election with --folder"
-        raise bad_words(path, "it is a database of another program", cure, None)
+        raise bad_arguments(path, "it is a database of another program", cure, None)
     version = int.from_bytes(head[VERSION_AT], "big")
     if version != VERSION:
         reason = f"it is a book of version {version}, and this program writes version {VERSION}"
-        raise bad_words(path, reason, "use the debvote-election that began this election")
+        raise bad_arguments(path, reason, "use the debvote-election that began this election")
 
 
 def address_of(mail: str) -> str:

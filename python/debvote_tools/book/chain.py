@@ -136,8 +136,8 @@ def break_in(connection: sqlite3.Connection, since: int | None = None) -> str | 
     """
     query = f"SELECT coalesce(max(digest), '{BEGINNING}') FROM {ACT} WHERE act = ? - 1"
     [(before,)] = connection.execute(query, (since,))
-    found = heapq.merge(*(acts_in(connection, table, since) for table in line_of()), key=ACT_OF)
-    for act, by_table in itertools.groupby(found, key=ACT_OF):
+    acts = heapq.merge(*(acts_in(connection, table, since) for table in line_of()), key=ACT_OF)
+    for act, by_table in itertools.groupby(acts, key=ACT_OF):
         _, table, rows = next(by_table)
         if table != ACT:
             return f"it has rows of act {act}, and no such act"
@@ -165,9 +165,9 @@ def query_of(table: str, acts: str = "") -> str:
     """
     line = line_of()[table]
     digest = "digest" if table == ACT else "NULL"
-    rows = f"{table} NOT INDEXED ORDER BY act, rowid"
+    source = f"{table} NOT INDEXED ORDER BY act, rowid"
     if acts:
-        found = f"(SELECT act AS its, rowid AS at FROM {table} WHERE {acts})"
+        places = f"(SELECT act AS its, rowid AS at FROM {table} WHERE {acts})"
         the_same = f"{table} NOT INDEXED ON act = its AND {table}.rowid = at"
-        rows = f"{found} CROSS JOIN {the_same} ORDER BY its, at"
-    return f"SELECT CAST({line} AS BLOB), {digest}, act FROM {rows}"
+        source = f"{places} CROSS JOIN {the_same} ORDER BY its, at"
+    return f"SELECT CAST({line} AS BLOB), {digest}, act FROM {source}"

@@ -1,8 +1,7 @@
-"""What is asked of the book, and the rows that acts add.
+"""What is asked of the book about electors, envelopes and letters, and the rows that acts add.
 
-Electors, what is sealed, envelopes and their lines, sources, and letters that came. `entered`,
-`ballot` and what is so `_now` are views of `schema.sql`, what became of envelopes those of
-`views.sql`.
+What is sealed, and sources, are asked for here, too. `entered`, `ballot` and what is so `_now` are
+views of `schema.sql`, what became of envelopes those of `views.sql`.
 """
 
 import collections
@@ -98,8 +97,8 @@ def sealed_polls(book: Book, name: str, number: int) -> dict[str, bytes]:
 
 
 def labels_of(book: Book) -> list[str]:
-    """The labels of the questions, as lines have them: of one alone, which has none, or is the only
-    one that is seen, it is empty.
+    """The labels of the questions, as lines have them; an empty one if there is one question, or
+    the book shows one alone.
     """
     polls = "(name = 'poll' OR name GLOB 'poll ?')"
     rows = book.rows(
@@ -125,7 +124,7 @@ def files_sealed(book: Book, folder: str) -> dict[str, int]:
 
 
 class OwnMark(NamedTuple):
-    """Whose own mark one is, and until when they had it: None of that of now."""
+    """The elector of an own mark, and until when they had it; None if they have it now."""
 
     elector: str
     until: datetime.datetime | None = None
@@ -150,7 +149,7 @@ def last_act_that_sealed(book: Book, name: str) -> int:
 
 
 def acts_since(book: Book, number: int) -> list[tuple[int, str]]:
-    """Number and name of each act since one."""
+    """Number and name of each act after the one of this number."""
     return book.rows("SELECT act, name FROM act WHERE act > ? ORDER BY act", number)
 
 
@@ -218,7 +217,7 @@ class TimedBallot(NamedTuple):
 
     @property
     def labels(self) -> Set[str]:
-        """Those of the questions that it answers."""
+        """The labels of the questions that the ballot answers."""
         return self.ballot.ranks.keys()
 
 
@@ -290,7 +289,7 @@ def lost(book: Book) -> list[Envelope]:
     query = "SELECT envelope FROM lost"
     gone = {(number, label) for label in each_question_alone(book) for number, in book.rows(query)}
     chosen = "envelope IN (SELECT value FROM json_each(?))"
-    found = envelopes(book, chosen, json.dumps([number for number, _ in gone]))
+    ballots = envelopes(book, chosen, json.dumps([number for number, _ in gone]))
     return [
         one._replace(
             by_question={
@@ -299,7 +298,7 @@ def lost(book: Book) -> list[Envelope]:
                 if (one.number, label) in gone
             }
         )
-        for one in found
+        for one in ballots
     ]
 
 
@@ -322,7 +321,7 @@ def lines_to_count(book: Book) -> list[bytes]:
 
 
 def lines_with_refusals(book: Book) -> list[tuple[bytes, str | None]]:
-    """The same lines, each with why debvote refuses it; None of a ballot."""
+    """The lines that debvote counts from, each with why it is refused; None of a ballot."""
     return book.rows("SELECT line, answer FROM ballot ORDER BY envelope")
 
 
@@ -518,10 +517,10 @@ def lines_that_came(book: Book, is_late: bool) -> collections.Counter[bytes]:
 
 
 def came_in_files(book: Book, is_late: bool) -> dict[bytes, list[Envelope]]:
-    """The same as envelopes, by their line; those that are struck or late come last."""
-    found = envelopes(book, IN_FILES, is_late)
-    found.sort(key=lambda envelope: envelope.is_late or envelope.is_struck)
-    return grouped((envelope.line, envelope) for envelope in found)
+    """The envelopes that came in files of lines, by their line; struck and late ones come last."""
+    came = envelopes(book, IN_FILES, is_late)
+    came.sort(key=lambda envelope: envelope.is_late or envelope.is_struck)
+    return grouped((envelope.line, envelope) for envelope in came)
 
 
 def late_beside_others(book: Book) -> dict[bytes, int]:

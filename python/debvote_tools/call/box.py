@@ -16,7 +16,7 @@ from collections.abc import Mapping
 
 from debvote_tools.book import queries
 from debvote_tools.book.book import Book
-from debvote_tools.cli.faults import Fault, bad_words
+from debvote_tools.cli.faults import Fault, bad_arguments
 from debvote_tools.election import BOX_KEY, BOX_SCRIPT
 from debvote_tools.files import sha256_of
 from debvote_tools.poll.sealed import OWN, OWN_SIGNS
@@ -62,8 +62,8 @@ SENTENCES = marked(
         "unsealed": "This browser can't seal a ballot. Open the link in another one.",
     }
 )
-# those that are others in a secret vote, in which nobody is asked to send a ballot by e-mail, and
-# no receipt says what is in it
+# the sentences that differ in a secret vote, in which nobody is asked to send a ballot by e-mail,
+# and no receipt says what is in it
 SECRET_SENTENCES = marked(
     {
         "type_name": "To vote here by a click, open the link in your own letter.",
@@ -183,5 +183,5 @@ def script_address(at: str | None) -> str:
     is_safe = parts.scheme == "https" or parts.scheme == "http" and parts.hostname in LOOPBACK
     if at is None or not is_safe or parts.query or not parts.path.endswith(("/", ".html")):
         reason = "the page needs an address by https that ends in / or .html"
-        raise bad_words("--box", reason, "give --at https://example.org/vote/ too")
+        raise bad_arguments("--box", reason, "give --at https://example.org/vote/ too")
     return urllib.parse.urljoin(at, SCRIPT)

@@ -10,7 +10,7 @@ from collections.abc import Iterator, Mapping, Sequence
 from typing import Any, NamedTuple
 
 from debvote_tools.cli.console import LINE_ENDS, shown_text, tell_as_it_is
-from debvote_tools.cli.faults import Fault, Status, bad_words, kept_in, stop_at
+from debvote_tools.cli.faults import Fault, Status, bad_arguments, kept_in, stop_at
 from debvote_tools.election import LETTER_TEXT, POLLS, TEXTS, Election
 from debvote_tools.files import POLL_LIMIT, read_text, read_whole
 from debvote_tools.poll.plain_names import bad_options, bad_title, plain_options, plain_title
@@ -103,7 +103,7 @@ def files_in(folder: pathlib.Path) -> list[pathlib.Path]:
         return sorted(file for file in files if not OF_EDITORS.fullmatch(file.name))
     except OSError as error:
         cure = "put a folder there with a text for each option"
-        raise bad_words(folder, error.strerror, cure, None) from None
+        raise bad_arguments(folder, error.strerror, cure, None) from None
 
 
 def title_in(folder: pathlib.Path) -> str:
@@ -112,7 +112,7 @@ def title_in(folder: pathlib.Path) -> str:
     write = "write into it one line, what the whole vote is about"
     title = read_text(file, POLL_LIMIT, write, write, THEN).strip()
     cure = f"write it in another way{THEN}"
-    stop_at([bad_words(file, reason, cure, None) for _, _, reason in bad_title(title)])
+    stop_at([bad_arguments(file, reason, cure, None) for _, _, reason in bad_title(title)])
     return title
 
 
@@ -189,12 +189,14 @@ def texts_in(folder: pathlib.Path, option_count: int, faults: list[Fault]) -> di
             if number is None or int(number[1]) > option_count:
                 most = f"1.txt to {option_count}.txt" if option_count else "1.txt and so on"
                 cure = f"name it by the number of an option that is not the default, {most}, or move it out of there"
-                raise bad_words(file, "it is not the text of an option of this poll", cure, None)
+                raise bad_arguments(
+                    file, "it is not the text of an option of this poll", cure, None
+                )
             texts[int(number[1])] = text_in(file, TEXTS_LIMIT)
     size = sum(len(text.encode()) for text in texts.values())
     if size > TEXTS_LIMIT:
         reason = f"the texts have {size} bytes together; at most {TEXTS_LIMIT} are allowed"
-        faults.append(bad_words(folder, reason, f"shorten them{THEN}", None))
+        faults.append(bad_arguments(folder, reason, f"shorten them{THEN}", None))
     return texts
 
 
@@ -272,7 +274,7 @@ def strange_files(election: Election, labels: Sequence[str]) -> Iterator[Fault]:
     for file in files_in(election.path(TEXTS)):
         if file.name not in labels:
             reason = f"no question has this label: texts are in {TEXTS}/A/1.txt and so on"
-            yield bad_words(file, reason, "move it out of there", None)
+            yield bad_arguments(file, reason, "move it out of there", None)
 
 
 # ---- the sealed form

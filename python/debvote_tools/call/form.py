@@ -17,5 +17,5 @@ def script_of_form(*names: str) -> str:
 
 
 def tellers_script() -> str:
-    """That of a page which seals to tellers: one for all such votes."""
+    """The script of a page that seals to tellers: one for all such votes."""
     return script_of_form("bytes.js", "sealing.js", "layers.js", "box.js")

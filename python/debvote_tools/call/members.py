@@ -313,8 +313,8 @@ def roll_of(
     """
     members, wrong = members_of(data, file)
     electors = with_proposals(with_known(members, known), known, language)
-    found = {elector.known for elector in electors}
-    gone = [person for person in known if person.position is not None and person not in found]
+    kept = {elector.known for elector in electors}
+    gone = [person for person in known if person.position is not None and person not in kept]
     wrong += [*wrong_names(members, electors), *wrong_groups(electors)]
     if electors and is_called:
         wrong += wrong_after_call(electors, gone)
@@ -324,25 +324,27 @@ def roll_of(
     return Roll(electors, gone)
 
 
-def with_known(rows: Sequence[Member], known: Sequence[Elector]) -> list[Member]:
+def with_known(members: Sequence[Member], known: Sequence[Elector]) -> list[Member]:
     """Finds each member in the book: by the name on the roll, else by `who`, among those on the
     roll, else among all. Nobody is found if several fit.
     """
     found: dict[int, Elector] = {}
     on_roll = [elector for elector in known if elector.position is not None]
     for field, candidates in itertools.product(("name", "who"), (on_roll, known)):
-        members = grouped((getattr(row, field), row) for row in rows if row.line not in found)
+        unfound = grouped(
+            (getattr(member, field), member) for member in members if member.line not in found
+        )
         taken = {*found.values()}
         free = grouped((getattr(one, field), one) for one in candidates if one not in taken)
         for text, electors in free.items():
-            fitting = members.get(text, [])
+            fitting = unfound.get(text, [])
             if text and len(fitting) == len(electors) == 1:
                 found[fitting[0].line] = electors[0]
     return [
-        row._replace(name=row.name or found[row.line].name, known=found[row.line])
-        if row.line in found
-        else row
-        for row in rows
+        member._replace(name=member.name or found[member.line].name, known=found[member.line])
+        if member.line in found
+        else member
+        for member in members
     ]
 
 
@@ -364,9 +366,9 @@ def with_proposals(
     ]
 
 
-def wrong_names(rows: Sequence[Member], electors: Sequence[Member]) -> Iterator[Wrong]:
+def wrong_names(members: Sequence[Member], electors: Sequence[Member]) -> Iterator[Wrong]:
     """Names that are missing, or not clearly of one person."""
-    nameless = {row.line for row in rows if not row.name}
+    nameless = {member.line for member in members if not member.name}
     owners = {elector.who: elector for elector in reversed(electors)}
     for group in several((elector.who, elector) for elector in electors).values():
         if lines := [elector.line for elector in group if elector.line in nameless]:

@@ -1,4 +1,4 @@
-"""Secret votes: codes and their slips, and the aliases under which ballots are published."""
+"""Secret votes: codes and their slips, aliases of published ballots, the random line of a close."""
 
 import csv
 import hmac

@@ -29,7 +29,7 @@ FREE = re.compile(
     r' (data-title|data-mark|data-page|data-seal|data-until|data-to|aria-label)="[^"]*"'
 )
 NUMBERED = re.compile(r' (?:name|value|id)="[^"]*"')
-# it is short, so that people can look through it: no margins, and no comments, which the source has
+# the page is short, so that people can look through it: no margins and no comments of the source
 MARGIN = re.compile(r"^\s*(?:// .*\n)?", re.MULTILINE)
 INNER = re.compile(r"<(style|script)>.*?</\1>", re.DOTALL)
 

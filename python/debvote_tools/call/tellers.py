@@ -1,9 +1,10 @@
-"""The tellers of a secret vote, by whom nobody can tell whose a ballot is.
+"""The tellers of a secret vote: their keys, what is sealed to them, and the lists that they open.
 
-The page seals the ranks, with a number that the elector alone knows, to one teller after another,
-the last one first, and all that with the link to the secretary. So the book has who has a ballot,
-and what is in it only once it is one of many: `Election.questions` are the check-off below, under
-names, and the poll that everybody sees has a place for each elector.
+Nobody can tell whose a ballot is: the page seals the ranks, with a number that the elector alone
+knows, to one teller after another, the last one first, and all that with the link to the secretary.
+So the book has who has a ballot, and what is in it only once it is one of many:
+`Election.questions` are the check-off below, under names, and the poll that everybody sees has a
+place for each elector.
 
 A list is the text that a teller is given, and hands on: `list-0.txt` is that of the close, each
 other one is signed by the teller who made it. `lists.py` reads and checks them.
@@ -15,7 +16,7 @@ from collections.abc import Collection, Iterable, Mapping, Sequence
 
 from debvote_tools.book import queries
 from debvote_tools.book.book import Book
-from debvote_tools.cli.faults import Fault, bad_words
+from debvote_tools.cli.faults import Fault, bad_arguments
 from debvote_tools.election import TELLERS, URN, Election, History, Sealed
 from debvote_tools.files import read_text, sha256_of
 from debvote_tools.poll.questions import Questions
@@ -58,7 +59,7 @@ def tellers_in(election: Election) -> dict[str, str]:
         words = (
             "it has to have two or three tellers, each a name and a point, and none of them twice"
         )
-        raise bad_words(file, words, write) from None
+        raise bad_arguments(file, words, write) from None
 
 
 def text_file(lines: Iterable[str]) -> bytes:
@@ -96,7 +97,7 @@ def demand_new_points(book: Book, tellers: Mapping[str, str]) -> None:
     noted = book.note().points()
     if names := [name for name, point in tellers.items() if noted.get(point, own) != own]:
         words = f"another vote has the keys of {', '.join(names)}"
-        raise bad_words(TELLERS, words, "the tellers make new keys")
+        raise bad_arguments(TELLERS, words, "the tellers make new keys")
 
 
 # ---- the polls
@@ -164,10 +165,10 @@ def first_list(title: str, mark: str, tellers: Mapping[str, str], blocks: Sequen
     return text_file([head, f"title {title}", *names, *sorted(blocks)])
 
 
-def voted_file(counting: Mapping[str, str]) -> bytes:
+def voted_file(counted_answers: Mapping[str, str]) -> bytes:
     """Who has voted, and in which way, from the check-off."""
     ways = {BY_CLICK: "click", ON_PAPER: PAPER}
-    return text_file(sorted(f"{name} {ways[ranks]}" for name, ranks in counting.items()))
+    return text_file(sorted(f"{name} {ways[ranks]}" for name, ranks in counted_answers.items()))
 
 
 # ---- what the book has of the lists

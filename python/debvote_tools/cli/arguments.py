@@ -19,7 +19,7 @@ import re
 from typing import Any, NoReturn
 
 from debvote_tools import VERSION
-from debvote_tools.cli.faults import Status, bad_words
+from debvote_tools.cli.faults import Status, bad_arguments
 from debvote_tools.cli.console import LINE_ENDS, number_of, odd_sign, write
 
 # in characters; a reason is a sentence or some
@@ -122,16 +122,16 @@ def demand_reason(because: str | None, option: str, *, has_paragraphs: bool = Fa
     text = (because or "").strip()
     if not text:
         reason = "it needs a reason, which the log keeps"
-        raise bad_words(option, reason, 'write it: --because "TEXT"')
+        raise bad_arguments(option, reason, 'write it: --because "TEXT"')
     odd = odd_sign(text, allowed="\t\n") if has_paragraphs else odd_sign(text, refused=LINE_ENDS)
     if odd is not None:
-        raise bad_words(
+        raise bad_arguments(
             "--because",
             f"the text has the character {number_of(odd)}, which no plain text has",
             "take it out",
         )
     if len(text) > LONGEST_REASON:
-        raise bad_words(
+        raise bad_arguments(
             "--because",
             f"the text has {len(text)} characters; at most {LONGEST_REASON} are allowed",
             "shorten it",

@@ -320,7 +320,7 @@ def say(text: str, /, *values: object, **places: object) -> str:
 
 
 def say_number(one: str, many: str, number: int, /, *values: object) -> str:
-    """The same in its form for a number, whose place is `{number}`."""
+    """A sentence to the secretary in its form for a number, whose place is `{number}`."""
     return SPOKEN.get().say_number(one, many, number, **dict(zip(PLACE.findall(many), values)))
 
 

@@ -14,7 +14,7 @@ class Status(enum.IntEnum):
     # all was done; of a count: it has a winner
     DONE = 0
     TIE = 1
-    BAD_WORDS = 2
+    BAD_ARGUMENTS = 2
     BAD_POLL = 3
     BAD_BALLOTS = 4
     BAD_OUTPUT = 7
@@ -73,11 +73,11 @@ class Fault(Exception):
         return self
 
 
-def bad_words(
+def bad_arguments(
     option: object, reason: object, cure: str, done: str | None = NOTHING_CHANGED
 ) -> Fault:
     """The fault of an option, or of what it names."""
-    return Fault(option, reason, cure, Status.BAD_WORDS, done)
+    return Fault(option, reason, cure, Status.BAD_ARGUMENTS, done)
 
 
 def stop_at(faults: Iterable[Fault]) -> None:

@@ -20,7 +20,7 @@ from debvote_tools.cli.console import (
     tell,
     tell_many,
 )
-from debvote_tools.cli.faults import Fault, bad_words, stop_at
+from debvote_tools.cli.faults import Fault, bad_arguments, stop_at
 from debvote_tools.debvote import TABLE
 from debvote_tools.election import Election, History
 from debvote_tools.grouping import grouped
@@ -72,12 +72,12 @@ def add(election: Election, arguments: Arguments) -> None:
         election.demand_right_book(arguments)
     vote = Vote(election)
     if arguments.box and arguments.files:
-        raise bad_words("--box", "it takes no file", "add files by a command of their own")
+        raise bad_arguments("--box", "it takes no file", "add files by a command of their own")
     letters, files = ([], []) if arguments.box else read_files(election, arguments.files)
     if files:
         take_lines(vote, files, arguments)
     elif of_lines := given(arguments, "force", "came_before_close"):
-        raise bad_words(
+        raise bad_arguments(
             ", ".join(of_lines), "only for lines, and these are letters", "leave this out"
         )
     else:
@@ -99,7 +99,7 @@ class FileLines:
     file: GivenFile
     lines: Sequence[CheckedLine]
     empty: Sequence[Line]
-    # its columns may stand in another order than the options
+    # whether it is a table, whose columns may stand in another order than the options
     is_table: bool
 
     @property
@@ -109,8 +109,8 @@ class FileLines:
 
 @dataclasses.dataclass(frozen=True)
 class ComparedLines(FileLines):
-    """The same, compared with the book as it is now: the lines that are new, and those that came
-    before, each with what has happened since, if it no longer counts.
+    """A file and its lines, compared with the book as it is now: those that are new, and those that
+    came before, each with what has happened since, if it no longer counts.
     """
 
     new: Sequence[CheckedLine]
@@ -125,7 +125,7 @@ class NewLines:
     timing: Sequence[DoneAct]
     is_late: bool
     files: Sequence[ComparedLines]
-    # those that were late, and would replace ballots in time, each in words
+    # the lines that were late, and would replace ballots in time, each in words
     replacing: Mapping[CheckedLine, str]
 
     @property
@@ -134,7 +134,7 @@ class NewLines:
 
 
 def new_lines(vote: Vote, files: Sequence[FileLines], came_before_close: bool | None) -> NewLines:
-    """It asks nothing of debvote, so it is found again within the act."""
+    """The new lines of files. debvote is not asked, so they are found again within the act."""
     history = vote.history()
     is_late = history.is_late(came_before_close)
     compared = compared_with_book(vote.book, files, is_late)
@@ -290,8 +290,8 @@ def counting_since(
         for line, copies in collections.Counter(map(as_entered, file.lines)).items()
         for envelope in came.get(line, ())[:copies]
     }
-    counting = queries.counting_envelopes(book).items()
-    return {answered: envelope for answered, envelope in counting if envelope[0] not in own}
+    by_answer = queries.counting_envelopes(book).items()
+    return {answer: envelope for answer, envelope in by_answer if envelope[0] not in own}
 
 
 def compared(
@@ -338,11 +338,11 @@ def look(vote: Vote, files: Sequence[FileLines], arguments: Arguments) -> None:
     came_before_close = arguments.came_before_close != "no"
     with vote.book.snapshot():
         new = new_lines(vote, files, came_before_close)
-        counting = queries.what_counts(vote.book)
+        counted_answers = queries.what_counts(vote.book)
         first = queries.last_envelope(vote.book) + 1
     lines = [(line.as_entered, line.why_refused) for line in new.lines]
     numbers = range(first, first + len(lines))
-    replies = [*replies_to(lines, counting, is_late=new.is_late)]
+    replies = [*replies_to(lines, counted_answers, is_late=new.is_late)]
     if new.history.is_reopened and arguments.came_before_close is None:
         tell(
             "Note: add will ask whether these lines came before the close; this preview assumes that they did."
@@ -456,7 +456,7 @@ def few_ballots(vote: Vote, files: Sequence[FileLines]) -> Iterator[Fault]:
 
 
 def has_few_ballots(lines: Sequence[CheckedLine]) -> bool:
-    """One line alone is looked at by whoever adds it."""
+    """Whether most lines are no ballots; a line alone is looked at by whoever adds it."""
     count = that_came(lines)
     return count > 1 and that_came(filter(is_ballot, lines)) * 2 < count
 

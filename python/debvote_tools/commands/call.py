@@ -26,7 +26,7 @@ from debvote_tools.call.tellers import (
 )
 from debvote_tools.cli.arguments import Acting, flag, given, option
 from debvote_tools.cli.console import act_time, is_terminal, is_yes, say, say_time, tell
-from debvote_tools.cli.faults import Fault, bad_words, kept_in, stop_at
+from debvote_tools.cli.faults import Fault, bad_arguments, kept_in, stop_at
 from debvote_tools.commands.backup import WHO_HAS_IT
 from debvote_tools.commands.check import (
     Checked,
@@ -263,7 +263,7 @@ def demand_open(election: Election, history: History, until: datetime.datetime |
             f"leave it out; enter ballots that came in time with {election.command('add')}",
         )
     if history.until is not None and until <= history.until:
-        raise bad_words(
+        raise bad_arguments(
             "--until",
             f"electors rely on {times.time_in_words(history.until)}, and {times.time_in_words(until)} is not later",
             "name a later time",
@@ -382,7 +382,9 @@ def announced(arguments: Arguments, history: History, faults: list[Fault]) -> De
         with kept_in(faults):
             script_address(detail.get("at") or history.announced("at"))
     if is_new and arguments.keyring is not None:
-        faults.append(bad_words("--box", "letters have to be signed, and no click is", LEAVE_OUT))
+        faults.append(
+            bad_arguments("--box", "letters have to be signed, and no click is", LEAVE_OUT)
+        )
     return detail
 
 
@@ -391,13 +393,13 @@ def faults_by_secrecy(
 ) -> Iterator[Fault]:
     is_secret = questions.is_secret
     if arguments.slips and not (is_secret and arguments.box):
-        yield bad_words("--slips", "only in a secret vote, with --box", LEAVE_OUT)
+        yield bad_arguments("--slips", "only in a secret vote, with --box", LEAVE_OUT)
     if arguments.names and is_secret:
-        yield bad_words(
+        yield bad_arguments(
             "--names", "the vote is secret", "leave it out: in a secret vote no names are published"
         )
     if arguments.box and is_secret and history.has_codes_on_roll:
-        yield bad_words(
+        yield bad_arguments(
             "--box",
             "codes are on the roll, and the result would show whoever keeps the web host whose each is",
             LEAVE_OUT,
@@ -411,15 +413,17 @@ def faults_by_tellers(
     electors = queries.electors(election.book)
     if not (questions.is_secret and arguments.box) or questions.is_several:
         words = "tellers open the ballots of a secret vote about one question, by clicks"
-        yield bad_words(TELLERS, words, "write secret = true into the poll, and call with --box")
+        yield bad_arguments(
+            TELLERS, words, "write secret = true into the poll, and call with --box"
+        )
     if any(elector.code for elector in electors) or election.history().has_codes_on_roll:
         words = "electors have codes, and with tellers nobody may have one"
-        yield bad_words(TELLERS, words, "begin anew in another folder")
+        yield bad_arguments(TELLERS, words, "begin anew in another folder")
     if arguments.slips:
-        yield bad_words("--slips", "with tellers slips have no codes", LEAVE_OUT)
+        yield bad_arguments("--slips", "with tellers slips have no codes", LEAVE_OUT)
     if len(electors) < FEWEST:
         words = f"of fewer than {FEWEST} electors the numbers tell how each voted"
-        yield bad_words(TELLERS, words, "hold the vote otherwise")
+        yield bad_arguments(TELLERS, words, "hold the vote otherwise")
 
 
 def asked_slips() -> str:

@@ -30,7 +30,7 @@ from debvote_tools.call.members import AGAIN, Roll, label_of, roll_of
 from debvote_tools.call.tellers import fingerprints, for_tellers, tellers_in
 from debvote_tools.cli.arguments import Options, option
 from debvote_tools.cli.console import count_of, listed, quorum_words, say, shown_text, tell, wrapped
-from debvote_tools.cli.faults import Fault, bad_words, kept_in, stop_at
+from debvote_tools.cli.faults import Fault, bad_arguments, kept_in, stop_at
 from debvote_tools.commands.export import demand_new
 from debvote_tools.election import (
     LETTER_TEXT,
@@ -157,7 +157,7 @@ def checked(election: Election, **announced: object) -> Checked:
 def checked_by_debvote(
     election: Election, questions: Questions, polls: Mapping[str, bytes], letter_text: str
 ) -> Checked:
-    """The same of polls that are in order, with what debvote says of each."""
+    """What a call would seal of polls that are in order, with what debvote says of each."""
     quorums = {
         label: sheet_in(election.debvote.answer("count", poll).text).quorum
         for label, poll in polls.items()
@@ -181,8 +181,8 @@ def drafts_in(election: Election, roll: Sequence[str], faults: list[Fault]) -> d
 
 
 def faults_of_poll(election: Election, draft: DraftPoll, poll_bytes: bytes) -> Iterator[Fault]:
-    """What it lacks, and what debvote says of it; of one that lacks something only which keys no
-    poll has: one of them may be lacking, misspelt.
+    """What a poll lacks, and what debvote says of it; of a poll that lacks something only which
+    keys no poll has: the key that it lacks may be there, misspelt.
     """
     lacking = faults_of_lacking(draft)
     yield from lacking
@@ -274,13 +274,13 @@ def like_answers(
 def faults_of_ballots(
     election: Election, questions: Questions, letter_text: str
 ) -> Iterator[Fault]:
-    """Those that read as ballots: an elector may send one back."""
+    """The lines of texts that read as ballots: an elector may send one back."""
     names = names_of(questions, queries.electors(election.book), election.language)
     for text, file in {**texts_of(questions), letter_text: LETTER_TEXT}.items():
         lines = text.splitlines()
         reading = reading_of(lines, names)
         for ballot in () if reading.is_proposed else reading.ballots:
-            yield bad_words(
+            yield bad_arguments(
                 f"{file}:{ballot.number}",
                 f"`{shown_text(lines[ballot.number - 1])}` reads as a ballot",
                 f"write it in another way{THEN}",

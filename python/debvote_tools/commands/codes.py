@@ -58,7 +58,7 @@ def codes(election: Election, arguments: Arguments) -> None:
         )
     else:
         tell(f"The table of codes: {private / CODES}. Let nobody else see it.")
-    # it has checked the poll
+    # `codes` has checked the poll
     tell_next(election, Step.CHECK)
 
 

@@ -90,7 +90,7 @@ def main(program_folder: pathlib.Path, typed: Sequence[str] | None = None) -> in
         return console.failed(PROGRAM, not_installed(error).words, Status.NOT_FOUND)
     if namespace.command is None:
         top.print_help()
-        return Status.BAD_WORDS
+        return Status.BAD_ARGUMENTS
     signal.signal(signal.SIGINT, signal.default_int_handler)
     election = Election(getattr(namespace, "folder", None), program_folder)
     try:

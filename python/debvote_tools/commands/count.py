@@ -4,7 +4,7 @@ from collections.abc import Collection, Mapping, Sequence
 
 from debvote_tools.cli.arguments import Acting, flag, option
 from debvote_tools.cli.console import tell, tell_as_it_is, tell_aside
-from debvote_tools.cli.faults import bad_words, stop_at
+from debvote_tools.cli.faults import bad_arguments, stop_at
 from debvote_tools.election import Election
 from debvote_tools.inbox.last_asking import asked_words
 from debvote_tools.inbox.box_asking import ask_for
@@ -76,7 +76,7 @@ def labels_asked_for(questions: Questions, label: str | None) -> Collection[str]
     label = label.upper()
     if not label or label not in questions:
         cure = f"name one of {', '.join(questions)}" if any(questions) else "leave it out"
-        raise bad_words("--question", f"there is no question {label}", cure)
+        raise bad_arguments("--question", f"there is no question {label}", cure)
     return [label]
 
 

@@ -23,7 +23,7 @@ from debvote_tools.cli.console import (
     tell,
     typed,
 )
-from debvote_tools.cli.faults import Fault, Status, bad_words
+from debvote_tools.cli.faults import Fault, Status, bad_arguments
 from debvote_tools.debvote import TABLE
 from debvote_tools.election import Election, History
 from debvote_tools.files import BALLOTS_LIMIT
@@ -277,7 +277,7 @@ def desk(election: Election, arguments: Arguments) -> None:
     label = (arguments.question or "").upper()
     vote = Vote(election, label)
     if label and vote.poll is None:
-        raise bad_words(
+        raise bad_arguments(
             "--question",
             f"the labels are {', '.join(vote.names.labels) or 'none: this vote has one question'}",
             "give one of them",
@@ -308,7 +308,7 @@ def name_of_desk(text: str) -> str:
     odd = odd_sign(name, refused=f"{LINE_ENDS},")
     if not 0 < len(name) <= LONGEST_NAME or odd is not None:
         reason = f"it has 1 to {LONGEST_NAME} plain characters, and no comma"
-        raise bad_words("--name", reason, "write another name")
+        raise bad_arguments("--name", reason, "write another name")
     return name
 
 

@@ -8,7 +8,7 @@ from debvote_tools.book import queries
 from debvote_tools.call.tellers import last_ballots, text_file
 from debvote_tools.cli.arguments import Options, flag, positional
 from debvote_tools.cli.console import demand_yes, say, tell
-from debvote_tools.cli.faults import bad_words
+from debvote_tools.cli.faults import bad_arguments
 from debvote_tools.election import CALL, LETTERS, PRIVATE, RESULT, Election
 from debvote_tools.files import whole_folder, write_whole
 from debvote_tools.poll.questions import place_of
@@ -85,4 +85,4 @@ def demand_new(election: Election, target: pathlib.Path, what: str) -> None:
     nothing = "nothing was written"
     election.demand_outside(target, CALL, LETTERS, RESULT, PRIVATE, done=nothing)
     if os.path.lexists(target):
-        raise bad_words(target, "it exists already", f"name a new {what}", nothing)
+        raise bad_arguments(target, "it exists already", f"name a new {what}", nothing)

@@ -24,7 +24,7 @@ from debvote_tools.cli.console import (
     tell,
     wait_words,
 )
-from debvote_tools.cli.faults import Fault, bad_words, kept_in, stop_at
+from debvote_tools.cli.faults import Fault, bad_arguments, kept_in, stop_at
 from debvote_tools.election import Election, History
 from debvote_tools.grouping import grouped
 from debvote_tools.inbox import letter_words
@@ -149,21 +149,21 @@ def next_words(
 
 
 def demand_words(arguments: Arguments) -> bool:
-    """Whether it is an act. Stops if the options do not go together."""
+    """Whether the options ask for an act. Stops if they do not go together."""
     chosen = given(arguments, "enter", "typed", "set_aside", "wait")
     if len(chosen) > 1:
-        raise bad_words(
+        raise bad_arguments(
             "held",
             "it does one thing at a time",
             "give only one of --enter, --as, --set-aside and --wait",
             None,
         )
     if arguments.typed is not None and len(arguments.numbers) != 1:
-        raise bad_words("--as", "a line is of one letter", "name one number before --as")
+        raise bad_arguments("--as", "a line is of one letter", "name one number before --as")
     if chosen and not arguments.numbers:
-        raise bad_words("held", "no letter is named", "name its number")
+        raise bad_arguments("held", "no letter is named", "name its number")
     if not arguments.set_aside and any(len(row) != 1 for row in arguments.numbers):
-        raise bad_words("held", "only --set-aside takes several in a row", "name each number")
+        raise bad_arguments("held", "only --set-aside takes several in a row", "name each number")
     return bool(chosen)
 
 
@@ -187,17 +187,17 @@ def all_letters(vote: Vote) -> list[LetterCase]:
 
 
 def chosen_letters(letters: Sequence[LetterCase], numbers: Sequence[range]) -> list[LetterCase]:
-    """Those that are named by a number of their own."""
+    """The letters that are named by a number of their own."""
     by_number = {letter.number: letter for letter in letters}
     named = [row.start for row in numbers if len(row) == 1]
     if unknown := [str(number) for number in named if number not in by_number]:
         place = f"letter {', '.join(unknown)}"
-        raise bad_words(place, "there is no such letter", "held lists the letters that wait")
+        raise bad_arguments(place, "there is no such letter", "held lists the letters that wait")
     return [by_number[number] for number in dict.fromkeys(named)]
 
 
 def of_rows(letters: Sequence[LetterCase], numbers: Sequence[range]) -> list[list[LetterCase]]:
-    """Those that wait among several in a row, by their reasons, in the order of the first of
+    """The letters that wait among several in a row, by their reasons, in the order of the first of
     each.
     """
     rows = [row for row in numbers if len(row) != 1]
@@ -243,14 +243,14 @@ MORE = marked("There is more in it than a ballot.")
 
 
 class Chosen(NamedTuple):
-    """Ballots of a letter that are entered. The line of one is 0 if it was typed."""
+    """Ballots of a letter that are entered. The number of a line is 0 if it was typed."""
 
     letter: LetterCase
     lines: Sequence[BallotLine]
 
     @property
     def again(self) -> list[EnteredBallot]:
-        """Those in which answers of these ballots were entered already."""
+        """The ballots by which answers of these were entered already."""
         entered = self.letter.entered_answers
         parts = (part for line in self.lines for part in line.ballot.parts)
         return [*dict.fromkeys(entered[part] for part in parts if part in entered)]
@@ -263,7 +263,7 @@ def enter(vote: Vote, arguments: Arguments) -> None:
     letters = all_letters(vote)
     named = chosen_letters(letters, arguments.numbers)
     if arguments.force and len(named) > 1 and not vote.has_codes:
-        raise bad_words("--force", "it is for one letter", "name one number")
+        raise bad_arguments("--force", "it is for one letter", "name one number")
     typed = typed_ballots(vote, arguments.typed or (), named[0].marked_elector)
     is_asked = is_terminal() and not arguments.yes
     is_each = is_asked and not all(letter.is_nothing_else for letter in named)
@@ -404,16 +404,16 @@ def lines_of(vote: Vote, text: str) -> list[Line]:
 def ballot_in_typed(vote: Vote, text: str) -> Ballot:
     """The ballot in what was typed."""
     lines = lines_of(vote, text)
-    answer = "it is not one line"
+    said = "it is not one line"
     if len(lines) == 1 and not lines[0].is_empty:
         # of several answers the last line is one that is refused
         *_, line = vote.checked_lines(lines)
         if (finding := line.lasting) is None:
             return line.ballot
-        answer = private(line.why_unclear or finding.answer)
+        said = private(line.why_unclear or finding.answer)
     raise Fault(
         "--as",
-        f"`{shown_line(text.encode('utf-8', 'backslashreplace'))}` is no ballot of this poll: {answer}",
+        f"`{shown_line(text.encode('utf-8', 'backslashreplace'))}` is no ballot of this poll: {said}",
         right_words(vote),
     )
 
@@ -545,7 +545,7 @@ def why_unsure(letter: LetterCase, beside: ElectorBallots, ballot: TimedBallot) 
 
 
 def why_not_unseen(chosen: Sequence[Chosen]) -> Iterator[Fault]:
-    """There is more in them, which somebody has to see."""
+    """Letters that have more than a ballot in them, which somebody has to see."""
     for letter, _ in chosen:
         if not letter.is_nothing_else:
             yield Fault(

@@ -26,7 +26,7 @@ from debvote_tools.cli.console import (
     typed_unseen,
     until_looked_at,
 )
-from debvote_tools.cli.faults import Fault, Status, bad_words, kept_in, stop_at
+from debvote_tools.cli.faults import Fault, Status, bad_arguments, kept_in, stop_at
 from debvote_tools.election import LETTERS, Election, History
 from debvote_tools.files import locked, uninterrupted
 from debvote_tools.grouping import grouped
@@ -232,7 +232,7 @@ def demand_codes(history: History, arguments: Arguments) -> None:
     if history.tellers:
         raise Fault("--codes", "in a vote with tellers nobody has a code", "leave it out")
     if not history.is_secret_by_click:
-        raise bad_words("--codes", "only in a secret vote with a web box", "leave it out")
+        raise bad_arguments("--codes", "only in a secret vote with a web box", "leave it out")
     if not (arguments.yes or is_agreed(say(CODES), marked("write them"))):
         raise Fault(None, "you did not agree to codes in letters", "give them on slips")
 
@@ -332,15 +332,17 @@ def demand_words(arguments: Arguments) -> None:
         cure = (
             f"name one of {', '.join(SUBJECTS)}; only --send goes without it, to send what is made"
         )
-        faults.append(bad_words("letters", "no kind is named", cure))
+        faults.append(bad_arguments("letters", "no kind is named", cure))
     if not arguments.send and (names := given(arguments, "server", "user", "password_file")):
         faults.append(
-            bad_words(", ".join(names), "only with --send", "give --send too, or leave this out")
+            bad_arguments(
+                ", ".join(names), "only with --send", "give --send too, or leave this out"
+            )
         )
     asked = "call" if arguments.codes else "reminders"
     for name, kind in (("at", "result"), ("codes", "call"), ("yes", asked)):
         if arguments.kind != kind and given(arguments, name):
-            faults.append(bad_words(f"--{name}", f"only with {kind}", "leave it out"))
+            faults.append(bad_arguments(f"--{name}", f"only with {kind}", "leave it out"))
     with kept_in(faults):
         if arguments.at is not None:
             demand_web_address(arguments.at)
@@ -356,7 +358,7 @@ def demand_words(arguments: Arguments) -> None:
 def sender_of(history: History, arguments: Arguments) -> str:
     if sender := arguments.sender or history.announced("to"):
         return str(sender)
-    raise bad_words("--from", "the call names no address", "give the sender's address with it")
+    raise bad_arguments("--from", "the call names no address", "give the sender's address with it")
 
 
 def server_of(history: History, arguments: Arguments) -> Server:
@@ -367,7 +369,7 @@ def server_of(history: History, arguments: Arguments) -> Server:
     else:
         detail = remembered(history)
         if detail is None:
-            raise bad_words("--send", "no server is named", "give --server HOST[:PORT]")
+            raise bad_arguments("--send", "no server is named", "give --server HOST[:PORT]")
         user = user or detail.get("user")
         server = dataclasses.replace(smtp.server_of(detail["server"]), is_remembered=True)
         by = f", {say('user {name}', user)}" if user else ""
@@ -376,7 +378,7 @@ def server_of(history: History, arguments: Arguments) -> Server:
         password = password_of(user, server, arguments.password_file)
         return dataclasses.replace(server, user=user, password=password)
     if arguments.password_file is not None:
-        raise bad_words("--password-file", "only with --user", "give --user too")
+        raise bad_arguments("--password-file", "only with --user", "give --user too")
     return server
 
 
@@ -387,9 +389,9 @@ def password_of(user: str, server: Server, file: str | None) -> str:
             return pathlib.Path(file).read_text("utf-8").rstrip("\r\n")
         except (OSError, UnicodeDecodeError) as error:
             words = error.strerror if isinstance(error, OSError) else "it is not text in UTF-8"
-            raise bad_words(file, words, "name the file that has the password") from None
+            raise bad_arguments(file, words, "name the file that has the password") from None
     if not is_terminal():
-        raise bad_words(
+        raise bad_arguments(
             "--user",
             f"the password of {shown_text(user)} can't be asked here",
             "give --password-file FILE, or run the command at a terminal",

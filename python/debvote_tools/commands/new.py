@@ -11,7 +11,7 @@ from debvote_tools.call.draft import NEW_POLL
 from debvote_tools.call.members import NEW_MEMBERS
 from debvote_tools.cli.arguments import Options, option, positional
 from debvote_tools.cli.console import say, tell
-from debvote_tools.cli.faults import bad_words
+from debvote_tools.cli.faults import bad_arguments
 from debvote_tools.election import MEMBERS_FILE, POLLS, Election
 from debvote_tools.files import uninterrupted, whole_folder, write_whole
 from debvote_tools.outbox.steps import draft_words
@@ -39,7 +39,7 @@ class Arguments(Options):
 def new(election: Election, arguments: Arguments) -> None:
     """Make the folder of an election, with a poll and a list of members to fill in."""
     if election.is_named:
-        raise bad_words(
+        raise bad_arguments(
             "--folder", "new makes the folder that follows it", "leave --folder out", None
         )
     folder = pathlib.Path(arguments.target)
@@ -50,7 +50,7 @@ def new(election: Election, arguments: Arguments) -> None:
         what = "not empty" if folder.is_dir() else "not a folder"
         if (folder / book.BOOK_FILE).exists():
             what = "an election already"
-        raise bad_words(folder, f"it exists, and is {what}", "choose another name")
+        raise bad_arguments(folder, f"it exists, and is {what}", "choose another name")
     polls = new_polls(arguments.questions)
     first, *others = polls
     files = first
@@ -93,7 +93,7 @@ def make(folder: pathlib.Path, language: str, polls: Mapping[str, bytes]) -> Non
         try:
             made = stack.enter_context(whole_folder(place))
         except OSError as error:
-            raise bad_words(
+            raise bad_arguments(
                 folder, error.strerror, "choose an existing place where you can write"
             ) from None
         for name, data in (*polls.items(), (MEMBERS_FILE, NEW_MEMBERS.encode())):

@@ -12,7 +12,7 @@ from debvote_tools.call.box import SCRIPT, records_file
 from debvote_tools.call.draft import texts_of
 from debvote_tools.cli.arguments import Acting, demand_reason, flag, option, positional
 from debvote_tools.cli.console import act_time, demand_yes, odd_sign, say, tell, tell_aside
-from debvote_tools.cli.faults import Fault, bad_words, kept_in, stop_at
+from debvote_tools.cli.faults import Fault, bad_arguments, kept_in, stop_at
 from debvote_tools.election import (
     BOX_KEY,
     CALL,
@@ -121,7 +121,7 @@ def publish(election: Election, arguments: Arguments) -> int:
     except WouldDiffer:
         if is_bare and not arguments.force:
             raise
-        # it tells the last one as an earlier one
+        # the new publication tells the last one as an earlier one
         is_new = True
         filled = make(is_new=is_new)
     tell_published(election, filled.outcomes, target, is_new=is_new)
@@ -319,7 +319,7 @@ def holders_and_days(
     if number and not (holders and days):
         words = "the page must say whose casting vote it was, and when it was given"
         cure = 'say it with --cast-by "NAME" --cast-on 2026-12-05'
-        faults.append(bad_words("--casting", words, cure))
+        faults.append(bad_arguments("--casting", words, cure))
     with kept_in(faults):
         holders = [*map(holder_in, given_for_each(number, "--cast-by", holders))]
     with kept_in(faults):
@@ -332,9 +332,11 @@ def given_for_each(number: int, option: str, given: list[str]) -> list[str]:
     for all. Stops if it is given another number of times.
     """
     if given and not number:
-        raise bad_words(option, "it describes the casting vote of --casting", "give --casting too")
+        raise bad_arguments(
+            option, "it describes the casting vote of --casting", "give --casting too"
+        )
     if len(given) not in (0, 1, number):
-        raise bad_words(
+        raise bad_arguments(
             option,
             f"{len(given)} are given, and of --casting {number}",
             "give it once for all, or once for each --casting, in their order",
@@ -345,7 +347,7 @@ def given_for_each(number: int, option: str, given: list[str]) -> list[str]:
 def holder_in(by: str) -> str:
     """The holder of a casting vote."""
     if not by.strip() or odd_sign(by, refused=REFUSED_IN_NAME) is not None or len(by) > NAME_LIMIT:
-        raise bad_words(
+        raise bad_arguments(
             "--cast-by",
             f"it must be a name on one line, of at most {NAME_LIMIT} characters, without quotation marks",
             "write it again",
@@ -358,11 +360,11 @@ def day_in(on: str, call: DoneAct) -> str:
     try:
         day = datetime.date.fromisoformat(on)
     except ValueError:
-        raise bad_words("--cast-on", f"`{on}` is not a day", "write it as 2026-12-05") from None
+        raise bad_arguments("--cast-on", f"`{on}` is not a day", "write it as 2026-12-05") from None
     days = [time.astimezone().date() for time in (call.time, times.now())]
     if not days[0] <= day <= days[1]:
         where = "in the future" if day > days[1] else f"before the call, which was on {days[0]}"
-        raise bad_words("--cast-on", f"{day} is {where}", "write the day on which it was given")
+        raise bad_arguments("--cast-on", f"{day} is {where}", "write the day on which it was given")
     return day.isoformat()
 
 

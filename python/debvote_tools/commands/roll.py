@@ -10,7 +10,7 @@ from debvote_tools.call.box import SCRIPT, box_files
 from debvote_tools.call.members import Member, Roll, elector_in_words, label_of
 from debvote_tools.cli.arguments import Acting, flag, option
 from debvote_tools.cli.console import is_terminal, is_yes, listed, say, say_number, shown_text, tell
-from debvote_tools.cli.faults import Fault, bad_words
+from debvote_tools.cli.faults import Fault, bad_arguments
 from debvote_tools.commands.check import MAX_NAMED, is_kept, read_roll
 from debvote_tools.commands.codes import CODES, SLIPS, write_slips
 from debvote_tools.election import BOX_SCRIPT, CALL, MEMBERS_FILE, PRIVATE, Election, History
@@ -72,7 +72,7 @@ def linked_anew(history: History, roll: Roll, name: str | None) -> list[Member]:
     has_links = history.announced("box") and not history.closes
     named = [member for member in roll.electors if has_links and member.name == name]
     if name is not None and not named:
-        raise bad_words(
+        raise bad_arguments(
             "--new-link",
             f"{shown_text(name)} has no link that could be replaced",
             "name an elector of the roll, or leave it out",

@@ -64,11 +64,11 @@ def status(election: Election, arguments: Arguments) -> None:
         return
     with election.book.snapshot():
         history = election.history()
-        counting = queries.what_counts(election.book)
-        state = state_of(election, history, counting, pending_letters(election, history))
+        counted_answers = queries.what_counts(election.book)
+        state = state_of(election, history, counted_answers, pending_letters(election, history))
         if history.call is not None and election.questions.is_several:
             state["questions"] = questions_in(election, history, has_late=bool(state["late"]))
-        refused = still_refused(election.book, counting)
+        refused = still_refused(election.book, counted_answers)
     if arguments.json:
         tell(json.dumps(state, ensure_ascii=False))
     else:
@@ -83,9 +83,9 @@ def demand_names(election: Election) -> None:
 
 
 def state_of(
-    election: Election, history: History, counting: Mapping[str, str], pending: Pending
+    election: Election, history: History, counted_answers: Mapping[str, str], pending: Pending
 ) -> State:
-    """The numbers of an election; `counting` is what counts of each elector."""
+    """The numbers of an election; `counted_answers` is what counts of each elector."""
     book = election.book
     electors = [elector.name for elector in queries.electors(book)]
     unreached, printed = unreached_and_printed(election, history)
@@ -104,7 +104,7 @@ def state_of(
         "stopping": pending.stopping,
         "without_ballot": None
         if history.has_codes_on_roll
-        else [name for name in electors if name not in counting],
+        else [name for name in electors if name not in counted_answers],
         "box": asked_last(election, history),
         "lost": with_lost_records(election, history),
         "not_reached": {one.elector.name: one.why for one in unreached},
@@ -114,12 +114,12 @@ def state_of(
     }
 
 
-def still_refused(book: Book, counting: Mapping[str, str]) -> list[Envelope]:
+def still_refused(book: Book, counted_answers: Mapping[str, str]) -> list[Envelope]:
     """The envelopes whose lines debvote refuses, but for those of electors whose ballots answer the
     same questions.
     """
     answered = {
-        elector.number: ranks_by_label(counting.get(elector.name, ""))
+        elector.number: ranks_by_label(counted_answers.get(elector.name, ""))
         for elector in queries.electors(book)
     }
     return [

@@ -105,7 +105,7 @@ def enter(election: Election, this: "List", seen: int) -> None:
     tell(
         f"list-{this.step}.txt: {count_of(len(this.ballots), 'ballot')}, {len(this.refused)} refused; SHA-256 {detail['checksum']}"
     )
-    # those of list 0 are the electors', who are to be told
+    # the ballots of list 0 are the electors', who are to be told
     clicks = queries.counting_clicks(election.book, BY_CLICK)
     electors = {click.block: click.elector for click in clicks}
     for block in this.refused if this.step == 1 else ():

@@ -19,8 +19,9 @@ SECOND = datetime.timedelta(seconds=1)
 
 
 def ask_for(election: Election, step: str, say: Callable[..., None] = tell) -> set[int]:
-    """Asks if a step needs it, and returns the numbers of the new ballots. Where the web host does
-    not answer as it should, the step stops at `unasked_fault`, as if nobody had asked.
+    """Asks the web box if a step needs it, and returns the numbers of the new ballots. Where the
+    web host does not answer as it should, the step stops at `unasked_fault`, as if nobody had
+    asked.
     """
     if not unasked_fault(election, election.history(), step) or election.book.is_read_only:
         return set()

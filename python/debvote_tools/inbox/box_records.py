@@ -31,7 +31,7 @@ from debvote_tools.call.box import (
     script_address,
 )
 from debvote_tools.cli.console import count_of, listed, shown_text
-from debvote_tools.cli.faults import Fault, bad_words
+from debvote_tools.cli.faults import Fault, bad_arguments
 from debvote_tools.call.tellers import has_right_block
 from debvote_tools.election import BOX_KEY, BOX_PAGE, POLL, Election, History
 from debvote_tools.files import sha256_of
@@ -240,7 +240,7 @@ def asked_box(vote: Vote) -> Brought:
     history = election.history()
     if not history.announced("box"):
         cure = f"add files; see {election.command('status')}"
-        raise bad_words("--box", "the call was made without it", cure)
+        raise bad_arguments("--box", "the call was made without it", cure)
     word = asking_word(queries.sealed(vote.book, BOX_KEY))
     asked = ask(history.announced("at"), election.sealed().public.mark, word)
     return brought_by(vote, history, asked)

@@ -10,7 +10,7 @@ from debvote_tools.book.queries import NewEnvelope
 from debvote_tools.cli import console
 from debvote_tools.cli.arguments import Acting, option
 from debvote_tools.cli.console import act_time, count_of, say, say_time, shown_line
-from debvote_tools.cli.faults import Fault, Status, bad_words
+from debvote_tools.cli.faults import Fault, Status, bad_arguments
 from debvote_tools.election import Election, History
 from debvote_tools.files import BALLOTS_LIMIT, LINES_LIMIT
 from debvote_tools.inbox.vote import CheckedLine, Vote, replies_to
@@ -62,8 +62,8 @@ class Entry(Change):
     def report(self, number: int) -> None:
         book = self.vote.book
         first, electors, lines = queries.entered_by(book, number)
-        counting = queries.what_counts(book, electors, at=number - 1)
-        replies = [*replies_to(lines, counting, is_late=self.is_late)]
+        counted_answers = queries.what_counts(book, electors, at=number - 1)
+        replies = [*replies_to(lines, counted_answers, is_late=self.is_late)]
         numbers = range(first, first + len(lines))
         try:
             console.tell_many(self.words(numbers, replies))
@@ -111,7 +111,7 @@ def came_before_close(history: History, answer: str | None) -> bool | None:
     """
     if not history.is_reopened:
         if answer is not None and not history.is_closed:
-            raise bad_words(CAME_BEFORE_CLOSE, "the vote was never closed", "leave it out")
+            raise bad_arguments(CAME_BEFORE_CLOSE, "the vote was never closed", "leave it out")
         return None
     if answer is not None:
         return answer == "yes"

@@ -10,7 +10,7 @@ from collections.abc import Sequence
 from typing import BinaryIO, NamedTuple
 
 from debvote_tools.cli.console import has_input, tell
-from debvote_tools.cli.faults import Fault, Status, bad_words, kept_in, stop_at
+from debvote_tools.cli.faults import Fault, Status, bad_arguments, kept_in, stop_at
 from debvote_tools.election import Election
 from debvote_tools.files import BALLOTS_LIMIT, PACKED, PDF, kind_of
 from debvote_tools.inbox.mailbox import (
@@ -81,7 +81,7 @@ def read_files(election: Election, paths: Sequence[str]) -> tuple[list[RawLetter
     if letters and files:
         names = ", ".join(STANDARD_INPUT if path == HYPHEN else path for path in letters)
         cure = "add letters and other files with separate commands"
-        raise bad_words(names, "it has letters, and the other files have none", cure)
+        raise bad_arguments(names, "it has letters, and the other files have none", cure)
     return [*itertools.chain(*letters.values())], [*files.values()]
 
 

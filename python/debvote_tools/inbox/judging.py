@@ -1,7 +1,7 @@
-"""What becomes of each letter, judged anew whenever letters are looked at.
+"""The case of each letter: what becomes of it, judged anew whenever letters are looked at.
 
-It is found by the rules, beside the other letters and the ballots of its elector, and by the vote,
-the electors and the book as they are now.
+A letter is judged by the rules, beside the other letters and the ballots of its elector, and by the
+vote, the electors and the book as they are now.
 """
 
 import bisect
@@ -78,8 +78,8 @@ class ElectorBallots:
         return next_others
 
     def labels_of(self, own: TimedBallot) -> Set[str]:
-        """Those of the questions that a ballot of a letter answers, or of all if it is not known,
-        to which there are answers.
+        """The labels of the questions that a ballot of a letter answers, or of all if it is not
+        known, to which there are answers.
         """
         return self.by_label.keys() & (own.labels or self.by_label.keys())
 
@@ -114,8 +114,9 @@ class ElectorBallots:
         end: datetime.datetime,
         known: Collection[int] = (),
     ) -> TimedBallot | None:
-        """The first one from a time until before another one, but for these envelopes, that answers
-        a question in another way than a ballot. Of thousands that are alike it looks at one.
+        """The first ballot from a time until before another time, but for those in these envelopes,
+        that answers a question in another way than a ballot of a letter. Of thousands that are
+        alike it looks at one.
         """
         others = []
         for label, answer in own.answers.items():
@@ -135,8 +136,8 @@ class ElectorBallots:
         return self.first_other(own, own.time, end) is not None
 
     def turned(self, own: TimedBallot) -> TimedBallot | None:
-        """The first one that may stand on the other side of a ballot by the clock of this computer:
-        of each other clock only those may whose times are within the difference.
+        """The first ballot that may stand on the other side of one of a letter by the clock of this
+        computer: of each other clock only those may whose times are within the difference.
         """
         turned = list[TimedBallot]()
         for behind, ballots in self.by_clock.items():
@@ -266,7 +267,7 @@ def judge_all(cases: Iterable[LetterCase], by_elector: BallotsByElector) -> list
         if case.ruling is Ruling.WAITS and not case.is_decided and case.other_vote:
             case.ruling = Ruling.OTHER_VOTE
             case.reason = Reason.OTHER_MARK(mark=case.other_vote)
-        # also one that was taken back
+        # also a letter whose ballot was taken back
         elif case.ruling is Ruling.WAITS and (why := why_not_own_vote(case)):
             case.ruling = Ruling.PASSED_OVER
             case.reason = why
@@ -315,7 +316,7 @@ def judge_originals(
     """
     in_order = {case: ballot_in(case, case.sole_line.ballot) for case in cases if case in originals}
     of_letters = grouped((case.elector, own) for case, own in in_order.items())
-    # also those of letters that wait
+    # the ballots of letters that wait among them
     every = {
         elector: ElectorBallots(sorted((*by_elector[elector].every, *owns), key=queries.by_time))
         for elector, owns in of_letters.items()

@@ -90,7 +90,7 @@ def asked_last(election: Election, history: History) -> Detail | None:
 
 
 def asked_words(history: History) -> list[str]:
-    """What is told of it; nothing of a vote without a box."""
+    """What is told of the last asking; nothing of a vote without a box."""
     if box := last_box(history):
         records = count_of(box["records"], "record")
         time = act_time(history.askings[-1].time)

@@ -1,6 +1,6 @@
-"""What the bytes of a letter alone say.
+"""What the bytes of a letter alone say: who sent it, when it arrived, its marks, and its text.
 
-That is who sent it, when it arrived and its text; or why it can't be read with certainty.
+Or they say why it can't be read with certainty.
 """
 
 import dataclasses

@@ -1,4 +1,4 @@
-"""Letters are read when they come, and debvote says which of their ballots are valid.
+"""Letters as they are read when they come, with debvote's verdicts, and as the book keeps them.
 
 `read_letters` has their bytes parsed (`letter.py`), their signatures checked (`signature.py`), and
 the ballots found in their texts (`letter_text.py`). `to_json` and `from_json` are how the book

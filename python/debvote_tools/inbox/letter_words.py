@@ -220,7 +220,7 @@ def whole(letter: LetterCase, is_ours: Callable[[str], bool]) -> Iterator[str]:
 
 
 def text_of(letter: LetterCase, is_ours: Callable[[str], bool]) -> Iterator[str]:
-    """Its lines with their numbers, but for empty ones; those of a letter of ours as one."""
+    """The lines of a letter with their numbers, but for empty ones; those of ours as one."""
     lines = ((place, line) for place, line in enumerate(letter.read.body.lines, 1) if line.strip())
     for ours, run in itertools.groupby(lines, lambda one: is_ours(one[1])):
         if ours:

@@ -178,10 +178,10 @@ class Names:
         line = line.replace("_", " ")
         if self.answers.search(line) is not None:
             return True
-        answer = bare_text(line.strip("> \t")) if self.words and not self.labels else ""
-        ranked = self.with_ranks(answer)
+        bare = bare_text(line.strip("> \t")) if self.words and not self.labels else ""
+        ranked = self.with_ranks(bare)
         name = ranked.rpartition(" ")[0].rstrip(" :")
-        return ranked != answer and (name == "" or self.meant_by(name) != [])
+        return ranked != bare and (name == "" or self.meant_by(name) != [])
 
     def label_behind_name(self, line: str) -> str:
         """The first label of a line, if it may belong to the name before it: not so in a line as it

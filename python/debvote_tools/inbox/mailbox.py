@@ -133,8 +133,8 @@ class RawLetter(OfBox):
 
     @functools.cached_property
     def digest(self) -> str:
-        """That of its bytes, or of the record as it came; one in a file is another letter than
-        that.
+        """The digest of its bytes, or of the record as it came; a record in a file is another
+        letter than that.
         """
         return self.record_digest or sha256_of(self.data)
 

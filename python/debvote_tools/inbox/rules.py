@@ -159,8 +159,8 @@ class LetterCase:
         self.sharing = circumstances.senders_of(letter)
         self.marked_elector, self.mark_ended = circumstances.own_mark_of(letter)
         self.is_automatic = letter.is_automatic or (is_server(letter.sender) and not self.sharing)
-        # that of its ballot: if letters have to be signed, that of the signature; of a record in a
-        # file, in which others can exchange times, that of its device
+        # the time of its ballot: if letters have to be signed, that of the signature; of a record
+        # in a file, in which others can exchange times, that of its device
         signature = letter.signature if circumstances.is_signed else None
         self.time = letter.arrived if signature is None else signature.time
         if letter.is_fetched and letter.sent and self.time and letter.is_dated_alike(self.time):
@@ -168,7 +168,7 @@ class LetterCase:
         # what a person may enter, and those that are written as ballots are
         self.proposals = self.valid_ballots()
         self.ballots = () if letter.text.is_proposed else self.proposals
-        # the one that may go in
+        # the ballot that may go in
         self.line = self.ballots[0] if len(self.ballots) == 1 else None
         self.elector = "" if self.line is None else self.line.ballot.elector
 
@@ -384,7 +384,7 @@ class LetterCase:
 
 # ---- the rules: each says why it does not hold, and None if it holds
 def why_not_readable(case: LetterCase) -> ReasonWithValues | None:
-    """A person wrote it, and all programs read it in one way."""
+    """A person wrote the letter, and all programs read it in one way."""
     if case.read.is_parted_off:
         return Reason.PARTED_OFF()
     return Reason.AUTOMATIC() if case.is_automatic else case.read.body.trouble
@@ -416,9 +416,9 @@ def why_not_sealed(case: LetterCase) -> ReasonWithValues | None:
 
 
 def why_not_in_time(case: LetterCase) -> ReasonWithValues | None:
-    """It arrived after the call, and not after the end or the first close; and if the box had it
-    when it was asked before, that asking brought it. The device of its elector says the same time,
-    and a later one than of all that came before it.
+    """The letter arrived after the call, and not after the end or the first close; and if the box
+    had it when it was asked before, that asking brought it. The device of its elector says the same
+    time, and a later one than of all that came before it.
     """
     read = case.read
     circumstances = case.circumstances
@@ -443,8 +443,8 @@ def why_not_in_time(case: LetterCase) -> ReasonWithValues | None:
 
 
 def why_not_from_its_elector(case: LetterCase) -> ReasonWithValues | None:
-    """It comes by the link of its elector, from the box itself; or from an address of theirs, with
-    the own mark unless letters have to be signed.
+    """The letter comes by the link of its elector, from the box itself; or from an address of
+    theirs, with the own mark unless letters have to be signed.
     """
     read = case.read
     elector = case.elector
@@ -474,7 +474,7 @@ def why_not_from_its_elector(case: LetterCase) -> ReasonWithValues | None:
 
 
 def why_not_signed_by_its_elector(case: LetterCase) -> ReasonWithValues | None:
-    """It has a good signature, if it must: only what was signed is its text."""
+    """The letter has a good signature, if it must: only what was signed is its text."""
     letter = case.read
     elector = case.elector
     circumstances = case.circumstances
@@ -509,15 +509,15 @@ def why_not_alone(case: LetterCase) -> ReasonWithValues | None:
 
 
 def why_not_of_this_vote(case: LetterCase) -> ReasonWithValues | None:
-    """Its subject has the mark of the poll, and no other; nor has a text that must be signed."""
+    """The subject has the mark of the poll, and no other; nor has a text that must be signed."""
     mark = case.circumstances.mark
     has_it_alone = case.read.marks and case.marks == {mark}
     return why_other_mark(case) or (None if has_it_alone else Reason.NO_SUBJECT_MARK(mark=mark))
 
 
 def why_other_mark(case: LetterCase) -> ReasonWithValues | None:
-    """It has no mark of another vote, or of a call that was taken back: the ranks would be those of
-    other options.
+    """The letter has no mark of another vote, or of a call that was taken back: the ranks would be
+    those of other options.
     """
     circumstances = case.circumstances
     others = (mark for mark in sorted(case.marks) if not are_alike(mark, circumstances.mark))

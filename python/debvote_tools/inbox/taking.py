@@ -111,7 +111,7 @@ def keep(vote: Vote, raws: Sequence[RawLetter], read: Sequence[ReadLetter], deta
     if not (raws or detail):
         return
     with vote.book.act("letters", {"letters": len(raws), **detail}) as act:
-        # their lines were read by the poll of this call
+        # the lines of the letters were read by the poll of this call
         vote.history()
         kept_digests = queries.kept_digests(vote.book)
         for raw, letter in zip(raws, read):

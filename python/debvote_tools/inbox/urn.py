@@ -18,7 +18,7 @@ from debvote_tools.call.tellers import (
     voted_file,
 )
 from debvote_tools.cli.console import count_of
-from debvote_tools.cli.faults import Fault, bad_words
+from debvote_tools.cli.faults import Fault, bad_arguments
 from debvote_tools.election import PRIVATE, URN, Election, Fixed, History
 from debvote_tools.files import OWN, read_whole, sha256_of, write_made
 from debvote_tools.inbox.lines import lines_in, names_of
@@ -97,7 +97,7 @@ def slips_in(election: Election, file: str | None) -> list[str]:
     if wrong := [str(number) for number in refused if texts[number - 1] != SPOILT]:
         words = f"these lines are not the ranks of a slip: {', '.join(wrong)}"
         cure = f"write {len(poll.names)} ranks, as 2,1,-, or - if it is spoilt"
-        raise bad_words(file, words, cure)
+        raise bad_arguments(file, words, cure)
     return [in_normal_form(line.decode().partition(" ")[2]) for line in lines]
 
 
@@ -130,14 +130,14 @@ def filled(
     public = election.decided
     tellers = history.tellers
     clicks = queries.counting_clicks(election.book, BY_CLICK)
-    counting = queries.what_counts(election.book)
+    counted_answers = queries.what_counts(election.book)
     slips = slips_in(election, paper)
-    demand_slips(slips, len(counting) - len(clicks))
+    demand_slips(slips, len(counted_answers) - len(clicks))
     unspoilt = [ranks for ranks in slips if ranks != SPOILT]
     sealed = sealed_slips(public, tellers, unspoilt)
     blocks = [*(click.block for click in clicks), *sealed.values()]
     in_list = first_list(public.name, public.mark, tellers, blocks)
-    voted = voted_file(counting)
+    voted = voted_file(counted_answers)
     # by ranks, so that slips can be numbered for a recount
     typed = text_file(sorted(sealed, key=lambda line: line.split(" ")[::-1]))
     detail: Detail = {

@@ -1,4 +1,4 @@
-"""The vote, as debvote is asked about its lines."""
+"""The vote as lines meet it: whose each is, what debvote says of it, and the reply to it."""
 
 import functools
 import re
@@ -36,7 +36,7 @@ NO_CHECK_OFF = Finding(
 )
 PAPER_AT_END = re.compile(rb"[\s:]+paper[.!]?\s*$", re.IGNORECASE)
 
-# the same where one of them is answered without its label
+# what is said of a line that is no ballot, where one question is answered without its label
 WITHOUT_LABEL = "a ballot here is a name and its ranks, without a label"
 
 # the reply to a line that came after the close
@@ -54,7 +54,7 @@ class CheckedLine(NamedTuple):
     original: Line
     # with the changes that are allowed
     as_meant: bytes
-    # the same if debvote takes it so, and otherwise without them
+    # as it is meant if debvote takes it so, and otherwise as it came
     as_entered: bytes
     # why debvote refuses it; None if it is a ballot
     finding: Finding | None = None
@@ -348,14 +348,14 @@ REPLACED = "replaced"
 
 
 def replies_to(
-    lines: Iterable[tuple[bytes, str | None]], counting: Mapping[str, str], *, is_late: bool
+    lines: Iterable[tuple[bytes, str | None]], counted_answers: Mapping[str, str], *, is_late: bool
 ) -> Iterator[str]:
     """The reply to each line, given with why debvote refuses it, unless it is late: the word with
     which it is refused; or whether a ballot is counted, or has replaced one of its elector, by what
     counts of electors and the lines above. If that differs by question, it says so: `A replaced, B
     counted`.
     """
-    answered = {name: {*ranks_by_label(answers)} for name, answers in counting.items()}
+    answered = {name: {*ranks_by_label(answers)} for name, answers in counted_answers.items()}
     for line, why_refused in lines:
         if refused := LATE_REPLY if is_late else (why_refused or "").partition(":")[0]:
             yield refused

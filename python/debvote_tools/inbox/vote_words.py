@@ -31,7 +31,7 @@ MOST_ANSWERS = 40
 # in characters: what is told of the options beside a ballot line
 MOST_OF_OPTIONS = 600
 
-# the same of a ballot of which the answers differ
+# what became of a ballot, if that differs by its answers
 IN_PART = marked("replaced in part")
 
 

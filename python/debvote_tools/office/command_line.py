@@ -52,7 +52,7 @@ def parser() -> argparse.ArgumentParser:
 def main(program_folder: pathlib.Path) -> int:
     console.prepare(signal.SIGHUP, signal.SIGTERM)
     signal.signal(signal.SIGINT, signal.default_int_handler)
-    # its pages are read by a person, as a terminal is
+    # the pages of the office are read by a person, as a terminal is
     console.AT_OFFICE = True
     words = parser().parse_args()
     office = Office(program_folder, words.language)
@@ -86,7 +86,7 @@ def serve(office: Office, port: int, *, has_browser: bool) -> int:
     with Server(office, port) as server:
         office.write_page()
         if has_browser:
-            # one that runs in this terminal is waited for
+            # a browser that runs in this terminal is waited for
             address = office.page.as_uri()
             threading.Thread(target=webbrowser.open, args=[address], daemon=True).start()
             console.tell(

@@ -59,7 +59,7 @@ def texts_of(election: Election) -> dict[str, str]:
 
 
 def text_of(file: pathlib.Path) -> str:
-    """Its text; nothing if it is not there."""
+    """The text of a file; nothing if it is not there."""
     try:
         return file.read_text("utf-8-sig")
     except FileNotFoundError:
@@ -155,7 +155,7 @@ def with_values(file: pathlib.Path, text: str, values: Values) -> str:
     """The text of a poll with these values, each in a line of its own, and all else as it is."""
     known = poll_in(file, text)
     if values["motion"] and known.get("motion") is True:
-        # its options may have other words
+        # the options of a motion may have other words
         values |= {key: known[key] for key in ("options", "default")}
     # what is so without it stays out
     values = {key: value for key, value in values.items() if value is not False or key in known}

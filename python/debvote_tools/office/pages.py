@@ -1,4 +1,4 @@
-"""What each page shows. A reading starts no command, and changes nothing."""
+"""The pages by their addresses. To read one starts no command, and changes nothing."""
 
 import pathlib
 import re

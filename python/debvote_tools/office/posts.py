@@ -3,7 +3,7 @@
 import pathlib
 from collections.abc import Callable, Mapping
 
-from debvote_tools.cli.faults import Fault, bad_words
+from debvote_tools.cli.faults import Fault, bad_arguments
 from debvote_tools.commands.held import NOT_TIED, VOTED_SINCE
 from debvote_tools.election import CALL, RESULT, URN
 from debvote_tools.files import PUBLIC, write_made
@@ -60,7 +60,7 @@ def folder(visit: Visit) -> Answer:
 def new(visit: Visit) -> Answer:
     path = pathlib.Path(first(visit.form, "folder").strip()).expanduser()
     if not path.is_absolute():
-        raise bad_words(path, "it is no whole path", "write it from its first slash on", None)
+        raise bad_arguments(path, "it is no whole path", "write it from its first slash on", None)
     options = [f"--{name}={first(visit.form, name)}" for name in ("language", "questions")]
     return follow(visit, Task(("new", *options, "--", str(path)), done=""))
 
@@ -233,7 +233,7 @@ def end(visit: Visit) -> Answer:
     return visit.page("ended")
 
 
-# those that need no election, and all
+# the forms that need no election, and all forms
 WITHOUT: Mapping[str, Callable[[Visit], Answer]] = {
     "folder": folder,
     "new": new,

@@ -108,15 +108,15 @@ class Request(http.server.BaseHTTPRequestHandler):
         parts = urllib.parse.urlsplit(self.path)
         _, secret, place = (parts.path + "//").split("/", 2)
         given = secret.encode("utf-8", "surrogateescape")
-        found = [
+        rooms = [
             room for room, own in office.rooms.items() if hmac.compare_digest(own.encode(), given)
         ]
-        if not found:
+        if not rooms:
             raise Refused()
         office.last_request = time.monotonic()
         name, slash, rest = urllib.parse.unquote(place).rstrip("/").partition("/")
         query = urllib.parse.parse_qs(parts.query, keep_blank_values=True)
-        return Visit(office, found[0], name + slash, rest, query)
+        return Visit(office, rooms[0], name + slash, rest, query)
 
     # ---- forms
     def form(self, visit: Visit) -> Form:

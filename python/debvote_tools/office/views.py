@@ -38,10 +38,10 @@ def state_of(election: Election) -> Values:
     """What `status` says, and what comes next."""
     with election.book.snapshot():
         history = election.history()
-        counting = queries.what_counts(election.book)
+        counted_answers = queries.what_counts(election.book)
         # letters are judged once: of many that takes longest
         now = steps.Now(election, history)
-        state = status.state_of(election, history, counting, now.pending)
+        state = status.state_of(election, history, counted_answers, now.pending)
         questions = election.questions if history.call else None
         if questions and questions.is_several:
             has_late = bool(state["late"])

@@ -1,4 +1,4 @@
-"""A request, and what answers it."""
+"""A request, with the election and the command that it is about, and its answer, such as a page."""
 
 import contextlib
 import dataclasses
@@ -64,7 +64,7 @@ class Visit:
     # ---- what it is about
     @property
     def number(self) -> int:
-        """That of one of several pages; 0 if it is none."""
+        """The number of one of several pages; 0 if the page is none of them."""
         return number_of(self.rest)
 
     @property

@@ -1,4 +1,4 @@
-"""Which letters of a kind are due, and what each says."""
+"""Which letters of a kind are due: to whom, for which act, and what each is about."""
 
 import dataclasses
 import datetime
@@ -10,7 +10,7 @@ from debvote_tools.book.outgoing import TAKEN, WRITTEN, About, OutgoingLetter
 from debvote_tools.book.queries import Elector
 from debvote_tools.call.call import CallData, current_call
 from debvote_tools.cli.arguments import demand_reason, has_reason
-from debvote_tools.cli.faults import Fault, bad_words, stop_at
+from debvote_tools.cli.faults import Fault, bad_arguments, stop_at
 from debvote_tools.election import LETTERS, RESULT_LETTER, Election, History
 from debvote_tools.inbox.last_asking import ASKING, unasked_fault, with_lost_records
 from debvote_tools.inbox.box_asking import ask_for
@@ -252,7 +252,7 @@ def call_data_of(
     if kind == "result":
         if call.at is None:
             words = "the letter must say where the result is published"
-            raise bad_words("--at", words, "give it: --at URL")
+            raise bad_arguments("--at", words, "give it: --at URL")
         if (code := history.publications[-1].detail["words"]["language"]) is not None:
             call = dataclasses.replace(call, language=language_of(code))
     fault = unasked_fault(election, history, kind)
@@ -327,11 +327,11 @@ def reminders_due(run: Run) -> LettersDue:
     run is a new one.
     """
     fates = fates_of(run.election, run.history)
-    counting = queries.what_counts(run.election.book)
+    counted_answers = queries.what_counts(run.election.book)
     silent = {
         number: elector
         for number, elector in run.electors.items()
-        if elector.name not in counting or elector.name in run.composer.lost
+        if elector.name not in counted_answers or elector.name in run.composer.lost
     }
     # whom a letter did not reach is reminded again, but not in the same run
     run = dataclasses.replace(run, electors=silent, tried_again=())
@@ -438,7 +438,7 @@ def results_due(run: Run) -> LettersDue:
     letter = queries.sealed(run.election.book, f"{LETTERS}/{RESULT_LETTER}", act).decode()
     # since the close no other ballot counts than in the publication
     fates = fates_of(run.election, run.history)
-    counting = queries.what_counts(run.election.book)
+    counted_answers = queries.what_counts(run.election.book)
     subject = subject_of_result(run.history)
     return to_each(
         run,
@@ -447,7 +447,7 @@ def results_due(run: Run) -> LettersDue:
             "result",
             elector,
             subject,
-            answers=counting.get(elector.name),
+            answers=counted_answers.get(elector.name),
             fates=told_of(fates[elector.name]).values(),
             letter=letter,
         ),
@@ -455,8 +455,8 @@ def results_due(run: Run) -> LettersDue:
 
 
 def subject_of_result(history: History) -> str:
-    """That of a result which differs from an earlier one: a casting vote has decided what was a
-    tie since the last close, or it is corrected. Else none of its own.
+    """The subject of a result that differs from an earlier one: a casting vote has decided what was
+    a tie since the last close, or it is corrected. Else none of its own.
     """
     *before, last = history.since_call("publish")
     subject = ""

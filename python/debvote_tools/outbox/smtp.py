@@ -75,7 +75,7 @@ def server_of(text: str) -> Server:
     host = bracketed or name
     if port is not None and not 0 < int(port) < 65536:
         cure = "write it as mail.example.org or mail.example.org:587"
-        raise Fault("--server", "it is not the name of a server", cure, Status.BAD_WORDS, None)
+        raise Fault("--server", "it is not the name of a server", cure, Status.BAD_ARGUMENTS, None)
     try:
         is_near = ipaddress.ip_address(host).is_loopback
     except ValueError:
@@ -167,7 +167,7 @@ class Mailer:
                 if code in DONE:
                     return letter._replace(state=TAKEN, reply="")
         except smtplib.SMTPDataError as error:
-            # it did not let the letter begin
+            # the server did not let the letter begin
             code, reply = error.smtp_code, error.smtp_error
         except LOST as error:
             words = f"the connection was lost during the letter to {letter.address}"

@@ -307,8 +307,8 @@ def unsent_reminders(now: Now) -> set[int]:
     if not since:
         return set()
     after = max(since[0], now.done_until(Step.LETTERS))
-    counting = queries.what_counts(now.book)
-    silent = {elector.number for elector in now.electors if elector.name not in counting}
+    counted_answers = queries.what_counts(now.book)
+    silent = {elector.number for elector in now.electors if elector.name not in counted_answers}
     return silent.intersection(dict(outgoing.unsent(now.book, "reminders", after)))
 
 
@@ -334,9 +334,9 @@ def not_reached(now: Now) -> Iterator[Due]:
         return
     if not (outgoing.was_refused(now.book) or any(case.read.returned for case in now.cases)):
         return
-    rows, _ = unreached_and_printed(now.election, now.history)
+    by_mail, _ = unreached_and_printed(now.election, now.history)
     done = now.done_until(Step.NOT_REACHED)
-    failed = [one.elector.name for one in rows if one.why != NO_LETTER and one.act > done]
+    failed = [one.elector.name for one in by_mail if one.why != NO_LETTER and one.act > done]
     if number := len(set(failed) - queries.what_counts(now.book).keys()):
         yield Due(Step.NOT_REACHED, number)
 
@@ -606,7 +606,7 @@ def close_words(election: Election, _: Due) -> str:
 
 
 def publish_words(election: Election, due: Due) -> str:
-    """Of a tie with what follows it."""
+    """How to publish; of a tie with what follows it."""
     publish = election.command("publish", *next_place(election))
     if not due.questions:
         return publish

@@ -85,7 +85,7 @@ OF_LETTER = marked(
         ),
     }
 )
-# of one from which only ballots of others were entered: whether it waits
+# of a letter from which only ballots of others were entered: whether it waits
 OF_OTHERS = marked(
     {
         False: "A letter of {time} has a ballot of somebody else, which was entered. No ballot of yours from it was entered.",
@@ -94,7 +94,7 @@ OF_OTHERS = marked(
     }
 )
 
-# the same of a ballot that came by the page of the vote, by whether it came by the link of the
+# what became of a ballot that came by the page of the vote, by whether it came by the link of the
 # elector
 OF_RECORD = marked(
     {
@@ -284,9 +284,9 @@ class Composer:
             for fault in self.faults(line.answer, name)
         )
 
-    def faults(self, answer: str | None, name: str) -> Iterator[str]:
+    def faults(self, verdict: str | None, name: str) -> Iterator[str]:
         is_of_several = self.call_data.questions.is_several
-        return faults_of(answer, name, self.language, is_of_several=is_of_several)
+        return faults_of(verdict, name, self.language, is_of_several=is_of_several)
 
 
 def is_on_paper(elector: Elector) -> bool:

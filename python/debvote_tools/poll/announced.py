@@ -6,7 +6,7 @@ import urllib.parse
 import zoneinfo
 
 from debvote_tools.cli.console import LINE_ENDS, odd_sign
-from debvote_tools.cli.faults import Fault, bad_words
+from debvote_tools.cli.faults import Fault, bad_arguments
 from debvote_tools.text.addresses import is_mail_address
 from debvote_tools.text.times import minute_in_words, time_in_words
 
@@ -47,7 +47,7 @@ def parse_until(
         )
         raise bad_until(reason, cure) from None
     if zone is not None:
-        raise bad_words("--zone", "the time has an offset already", "leave out one of the two")
+        raise bad_arguments("--zone", "the time has an offset already", "leave out one of the two")
     time = time.replace(microsecond=0)
     return time, time.isoformat()[len("2026-12-04T18:00:00") :]
 
@@ -65,7 +65,9 @@ def in_zone(plain: datetime.datetime, name: str | None) -> datetime.datetime:
         zone = None if name is None else zoneinfo.ZoneInfo(name)
     except (zoneinfo.ZoneInfoNotFoundError, ValueError, OSError):
         cure = "write one as Europe/Berlin, or give the offset in the time, as +01:00"
-        raise bad_words("--zone", "this computer knows no time zone of this name", cure) from None
+        raise bad_arguments(
+            "--zone", "this computer knows no time zone of this name", cure
+        ) from None
     folded = [plain.replace(fold=fold) for fold in (0, 1)]
     times = [time.replace(tzinfo=zone) if zone else time.astimezone() for time in folded]
     shown = [time.astimezone(datetime.UTC).astimezone(zone).replace(tzinfo=None) for time in times]
@@ -84,7 +86,7 @@ def in_zone(plain: datetime.datetime, name: str | None) -> datetime.datetime:
 
 
 def bad_until(reason: str, cure: str) -> Fault:
-    return bad_words("--until", reason, cure)
+    return bad_arguments("--until", reason, cure)
 
 
 # ---- addresses
@@ -97,14 +99,14 @@ def named_address(text: str) -> tuple[str, str]:
         reason = (
             f"the name has to be at most {NAME_LIMIT} characters, without quotation marks, < and >"
         )
-        raise bad_words("--to", reason, 'write it as "Name <ADDRESS>"')
+        raise bad_arguments("--to", reason, 'write it as "Name <ADDRESS>"')
     return name, address
 
 
 def demand_mail_address(text: str, option: str = "--to") -> None:
     if not is_mail_address(text):
         reason = "it must be one mail address, as secretary@example.org"
-        raise bad_words(option, reason, "write it again")
+        raise bad_arguments(option, reason, "write it again")
 
 
 def demand_web_address(text: str) -> None:
@@ -119,4 +121,4 @@ def demand_web_address(text: str) -> None:
         "it must be the address of a page, as https://example.org/vote/, without a part after #"
     )
     cure = "write it so, with accents as %C3%BC, or in the name of a host as xn--bcher-kva.example"
-    raise bad_words("--at", reason, cure)
+    raise bad_arguments("--at", reason, cure)

@@ -115,7 +115,7 @@ def made_different(
 
 # ---- the poll
 def plain_title(title: str, language: str) -> str:
-    """An empty title stays empty, so that it is refused."""
+    """The plain title; an empty title stays empty, so that it is refused."""
     return plain_text(title, language, TITLE_LIMIT) or ("Vote" if title else "")
 
 

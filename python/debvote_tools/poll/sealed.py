@@ -1,7 +1,7 @@
-"""The sealed poll, in plain form.
+"""The sealed poll as a value, read from its plain form and written in it; and marks in subjects.
 
-That is TOML with a line `key = value` for each key, in the order of `KEYS`, each value as JSON
-writes it. `questions.py` has what is the same for all polls of an election.
+The plain form is TOML with a line `key = value` for each key, in the order of `KEYS`, each value as
+JSON writes it. `questions.py` has what is the same for all polls of an election.
 """
 
 import dataclasses

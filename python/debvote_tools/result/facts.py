@@ -87,8 +87,8 @@ class Act(Told):
     labels: Collection[str] | None = None
 
     def told_of(self, labels: Collection[str]) -> "Act":
-        """The same, as it is told of some questions: of several each before its label, in front of
-        which it would look like an answer.
+        """The act, as it is told of some questions: of several each value before its label, in
+        front of which it would look like an answer.
         """
         places = {
             key: ", ".join(
@@ -123,7 +123,7 @@ class VoteFacts(NamedTuple):
     desk_lines: Sequence[int] = ()
     # the letter of the last close, unless the vote was opened again: it has the checksum of other
     # ballots
-    closed: bytes | None = None
+    closing_letter: bytes | None = None
     # by the names on the roll, if they are published
     real_names: Mapping[str, str] = {}
     # those that are known before the count, about the whole vote and about each question
@@ -168,7 +168,7 @@ class VoteFacts(NamedTuple):
         vote alone can change the result, and what was done tells of them.
         """
         acts = self.acts_about(labels)
-        if self.closed is not None:
+        if self.closing_letter is not None:
             closes = [number for number, act in enumerate(acts) if act.done == "closed"]
             acts = acts[: closes[-1]]
         return [act for act in acts if act.done == "published"]
@@ -236,7 +236,7 @@ class Outcome:
 
     @property
     def doubts_of_count(self) -> Iterator[Doubt]:
-        """Those about what came of the question, by the sheet of all lines that came."""
+        """The doubts about what came of the question, by the sheet of all lines that came."""
         sheet = self.facts.private or self.sheet
         label = self.facts.label
         if not sheet.voters:
@@ -251,7 +251,7 @@ class Outcome:
 
     @property
     def doubts(self) -> list[Doubt]:
-        """Those about the question and about the whole vote."""
+        """The doubts about the question and about the whole vote."""
         labels = ("", self.facts.label)
         known = (doubt for doubt in self.facts.vote.doubts if doubt.label in labels)
         return [*self.doubts_of_count, *known]

@@ -12,7 +12,7 @@ from typing import NamedTuple
 
 from debvote_tools.call.secret import demand_no_code
 from debvote_tools.cli.console import say, tell_aside, tell_aside_as_it_is
-from debvote_tools.cli.faults import Fault, Status, bad_words, stop_at
+from debvote_tools.cli.faults import Fault, Status, bad_arguments, stop_at
 from debvote_tools.debvote import Answer, Debvote, findings_in
 from debvote_tools.files import (
     TEMPORARY,
@@ -67,11 +67,11 @@ def demand_outside(target_folder: pathlib.Path) -> None:
     for above in real_place(target_folder).parents:
         if all((above / name).is_file() for name in (CHECKSUMS, PAGE)):
             words = f"it would be in {above}, whose files are published as they are"
-            raise bad_words(target_folder, words, "name a folder outside of it")
+            raise bad_arguments(target_folder, words, "name a folder outside of it")
 
 
 def in_use(target_folder: pathlib.Path, words: str, cure: str) -> Fault:
-    return bad_words(target_folder, f"it exists already, and is not {words}", cure)
+    return bad_arguments(target_folder, f"it exists already, and is not {words}", cure)
 
 
 # ---- what is in it
@@ -283,7 +283,7 @@ def further_files(outcome: Outcome, picture: bytes | None) -> dict[str, bytes]:
         file_names.TABLE: votes_csv(outcome.sheet).encode(),
         file_names.PICTURE: picture,
         file_names.LATE: None if facts.late is None else ballot_file(facts.late),
-        file_names.CLOSED: facts.vote.closed,
+        file_names.CLOSED: facts.vote.closing_letter,
         file_names.SEAL: f"{facts.seal}\n".encode() if facts.seal else None,
         **facts.vote.lists,
     }

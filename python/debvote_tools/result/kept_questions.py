@@ -33,7 +33,7 @@ class KeptQuestion(NamedTuple):
     # refuses lines, by their places, and what counts of each elector
     lines: int
     refused: dict[int, str]
-    counting: dict[str, str]
+    counted_answers: dict[str, str]
     late: list[bytes]
 
 
@@ -71,7 +71,7 @@ def kept_questions(
         findings = election.debvote.findings(kept.poll.as_bytes(), kept.ballots)
         verdicts = {finding.line: finding.word for finding in findings.refused}
         demand_same_verdicts(
-            election, (verdicts, findings.voters), (kept.refused, len(kept.counting))
+            election, (verdicts, findings.voters), (kept.refused, len(kept.counted_answers))
         )
     return by_label
 
@@ -85,10 +85,10 @@ def demand_fixed(fixed: Fixed, kept: KeptQuestion) -> None:
 
 
 def sealed_to_tellers(book: Book, kept: KeptQuestion) -> KeptQuestion:
-    """The same, with the list of the close in place of ballots. Stops if those who are checked off
+    """A question with the list of the close in place of ballots. Stops if those who are checked off
     are others than the close kept.
     """
-    if voted_file(kept.counting) != queries.sealed(book, VOTED):
+    if voted_file(kept.counted_answers) != queries.sealed(book, VOTED):
         raise Fault(book.path, f"those who voted are not those of {VOTED}", KEEP)
     return kept._replace(public=queries.sealed(book, LIST_0))
 
@@ -103,10 +103,10 @@ def decided_questions(
     if not history.tellers:
         return kept
     ballots = last_ballots(election, history).items()
-    counting = {place: ranks for place, (_, ranks) in ballots}
-    lines = text_file(map(" ".join, counting.items()))
+    counted_answers = {place: ranks for place, (_, ranks) in ballots}
+    lines = text_file(map(" ".join, counted_answers.items()))
     as_decided = kept[""]._replace(
-        poll=election.decided[""], ballots=lines, public=lines, counting=counting
+        poll=election.decided[""], ballots=lines, public=lines, counted_answers=counted_answers
     )
     return {"": as_decided}
 
@@ -114,13 +114,13 @@ def decided_questions(
 def kept_question(book: Book, label: str, poll: SealedPoll) -> KeptQuestion:
     """What the book has of the question that is seen alone."""
     answered = queries.lines_with_refusals(book)
-    counting = queries.what_counts(book)
+    counted_answers = queries.what_counts(book)
     ballots = ballot_file(line for line, _ in answered)
     aliases = {elector.name: alias_in(label, elector) for elector in queries.electors(book)}
     return KeptQuestion(
         poll=poll,
         ballots=ballots,
-        public=aliased_ballots(counting, aliases) if poll.secret else ballots,
+        public=aliased_ballots(counted_answers, aliases) if poll.secret else ballots,
         lines=len(answered),
         # another version of debvote may give the reason in other words
         refused={
@@ -128,7 +128,7 @@ def kept_question(book: Book, label: str, poll: SealedPoll) -> KeptQuestion:
             for place, (_, why) in enumerate(answered, start=1)
             if why is not None
         },
-        counting=counting,
+        counted_answers=counted_answers,
         late=queries.lines(book, "envelope IN late"),
     )
 
@@ -143,9 +143,9 @@ def demand_own_lines(book: Book, roll: Collection[str]) -> None:
             raise Fault(book.path, words, KEEP)
 
 
-def demand_same_verdicts(election: Election, answer: object, kept: object) -> None:
+def demand_same_verdicts(election: Election, said: object, kept: object) -> None:
     """Stops if debvote says another thing of the lines than the book keeps of it."""
-    if answer != kept:
+    if said != kept:
         words = "debvote says of its lines another thing than it keeps: a verdict was changed, or another version of debvote judges"
         raise Fault(election.book.path, words, KEEP)
 

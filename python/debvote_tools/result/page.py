@@ -1,4 +1,4 @@
-"""The pages and the letter of a result: what their templates are filled with."""
+"""The pages and the letter of a result: what fills their templates, and what their scripts say."""
 
 import base64
 import functools
@@ -389,7 +389,7 @@ COUNT_AGAIN = marked(
         whole_sheet="The whole sheet by this count",
         choose="Choose {poll} and {ballots}, one file of each and under these names; you may add {sheet}.",
         unreadable="A file that you chose cannot be read.",
-        # those with which the page says options and ballots
+        # the sentences with which the page says options and ballots
         plain_name=PLAIN_NAME,
         equally=EQUALLY,
         unranked=UNRANKED_LAST,

@@ -1,4 +1,4 @@
-"""What is published of an election, from its book: the letter of a close, the facts of a result."""
+"""What is published of an election, collected from its book as facts, and the letter of a close."""
 
 import collections
 import datetime
@@ -61,7 +61,7 @@ def vote_facts(
         acts=acts_of(book, history, again, is_secret=is_secret),
         labels_after_end=labels_after_end(book, history),
         desk_lines=desk_lines(book, history, again),
-        closed=closing_letter(election, history) if history.is_closed else None,
+        closing_letter=closing_letter(election, history) if history.is_closed else None,
         real_names=call.real_names or {},
         doubts=[*doubts_of(election, history, words.castings, pending)],
         codes={elector.code for elector in queries.electors(book) if is_secret and elector.code},
@@ -103,7 +103,7 @@ def question_facts(election: Election, vote: VoteFacts) -> list[QuestionFacts]:
     questions = list[QuestionFacts]()
     for label, kept in decided_questions(election, history, election.questions).items():
         standing = election.debvote.standing(kept.poll.as_bytes(), kept.ballots)
-        demand_same_verdicts(election, standing, kept.counting)
+        demand_same_verdicts(election, standing, kept.counted_answers)
         facts = QuestionFacts(vote, label, kept.public, len(kept.late), kept.late)
         if vote.questions.is_secret:
             facts = facts._replace(
@@ -173,7 +173,7 @@ def shown_by_comparison(
         before = queries.what_counts(election.book, at=earlier[-1].number)
     then, now = (
         {name: in_normal_form(ranks) for name, ranks in votes.items()}
-        for votes in (before, kept.counting)
+        for votes in (before, kept.counted_answers)
     )
     return [name for name in election.questions.roll if then.get(name) != now.get(name)]
 
@@ -199,7 +199,7 @@ def doubts_of(
 
 
 def doubts_of_box(election: Election, history: History, *, stops: bool) -> Iterator[Doubt]:
-    """Those about the web box; whether one that was not asked since the end stops."""
+    """The doubts about the web box; whether one that was not asked since the end stops."""
     if is_unasked_since_end(history):
         ask = election.command("add", "--box")
         advice = f"the web box was not asked since the end: run {ask}"

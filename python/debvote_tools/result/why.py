@@ -13,7 +13,7 @@ Row = dict[str, Any]
 
 
 class Why:
-    """`options` has them by their numbers, as parts of a sentence."""
+    """Why each option ended as it did; `options` are by their numbers, as parts of a sentence."""
 
     def __init__(self, sheet: Sheet, options: Mapping[int, str]) -> None:
         self.sheet = sheet

@@ -1,4 +1,4 @@
-"""Ballot files, a ballot in words, and why a line is none.
+"""A ballot as a value, as a line of a file, and in words; and why a line is none.
 
 Ranks are spelled as `standing` and the ballot file spell them, such as `1,2,-,3`.
 """
@@ -118,7 +118,7 @@ def ballots_in_words(
     `add` prints 100,000.
     """
     if motion:
-        return functools.partial(answer_in_words, in_words(names, language))
+        return functools.partial(motion_in_words, in_words(names, language))
     then = language.between(THEN)
 
     # many ballots have few groups of options that are equal
@@ -143,10 +143,10 @@ def ballots_in_words(
     return order_in_words
 
 
-def answer_in_words(answers: Sequence[str], ranks: str) -> str:
-    """The answer to a motion, of yes, no and abstention, by the order of its ranks."""
+def motion_in_words(words: Sequence[str], ranks: str) -> str:
+    """A ballot on a motion in words, yes, no or abstention, by the order of its ranks."""
     option, default = (NUMBERS[rank] for rank in ranks.split(","))
-    return answers[2 if option == default else int(option > default)]
+    return words[2 if option == default else int(option > default)]
 
 
 # ---- why a line is no ballot
@@ -155,18 +155,18 @@ RANK_COUNT = re.compile(r"bad rank count: (\d+) ranks?, the poll has (\d+) optio
 
 
 def faults_of(
-    answer: str | None,
+    verdict: str | None,
     name: str,
     language: Language,
     *,
     is_of_several: bool = False,
 ) -> Iterator[str]:
-    """What is wrong with a line, which may have answers to several questions, by what debvote says
-    of it; nothing if it is late. It names the elector if the name is known.
+    """What is wrong with a line, which may have answers to several questions, by debvote's verdict,
+    None for a ballot; nothing if it is late. It names the elector if the name is known.
     """
-    if answer is None:
+    if verdict is None:
         yield language.say("It is a ballot.")
-    elif count := RANK_COUNT.match(answer):
+    elif count := RANK_COUNT.match(verdict):
         number = int(count[1])
         options = count[2]
         yield language.say_number(
@@ -180,10 +180,10 @@ def faults_of(
             number,
             options=options,
         )
-    elif answer.startswith("bad not on roll: "):
+    elif verdict.startswith("bad not on roll: "):
         if name:
             yield language.say("The name in it is not on the roll; yours is {name}.", name=name)
         else:
             yield language.say("The name in it is not on the roll.")
-    elif not answer.startswith("late: "):
+    elif not verdict.startswith("late: "):
         yield language.say("It is not written as a ballot is.")

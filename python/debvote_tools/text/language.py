@@ -54,7 +54,7 @@ class Language:
         return self.made(self.catalog.ngettext(one, many, number)).format(number=number, **places)
 
     def say_each(self, text: str, rows: Iterable[Mapping[str, object]]) -> str:
-        """Says it for each row of places, as part of a sentence."""
+        """Says a text for each row of places, as part of a sentence."""
         return self.joined(self.say(text, **row) for row in rows)
 
     def joined(self, entries: Iterable[str]) -> str:

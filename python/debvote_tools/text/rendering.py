@@ -26,8 +26,8 @@ from debvote_tools.text.times import date_in_words, time_in_words
 if TYPE_CHECKING:
     import jinja2
 
-# it takes as long to be imported as all else: that is left to who makes a page or a letter, but a
-# command that lacks it stops before it does anything
+# jinja2 takes as long to be imported as all else: that is left to who makes a page or a letter, but
+# a command that lacks it stops before it does anything
 if importlib.util.find_spec("jinja2") is None:
     raise ModuleNotFoundError("No module named 'jinja2'", name="jinja2")
 

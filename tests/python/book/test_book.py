@@ -35,7 +35,7 @@ ACTING = (
     "reopen --because x|call --to x@club.example|codes|count|publish|letters receipts"
 ).split("|")
 READING = "status|status --json|show ada|log|log --check|held|check|add --look more".split("|")
-# those on whose words others rely: they read the whole chain
+# the commands on whose words others rely: they read the whole chain
 RELYING = "log --check|count|close|publish|export out|backup copy.db".split("|")
 
 # some that do an act

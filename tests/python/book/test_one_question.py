@@ -29,7 +29,7 @@ def book(tmp_path: pathlib.Path) -> Book:
     with book.act("roll", {"electors": 2}) as act:
         ada, ben = (act.insert("elector", name=name) for name in ("ada", "ben"))
     with book.act("add") as act:
-        new = [queries.NewEnvelope(line, why_refused=answer) for line, answer in LINES]
+        new = [queries.NewEnvelope(line, why_refused=why) for line, why in LINES]
         queries.add_envelopes(act, new, [ada, ben, ada, ben], is_late=False)
     return book
 

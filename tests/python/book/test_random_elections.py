@@ -81,7 +81,7 @@ class Letter:
 
     @property
     def electors(self) -> list[str]:
-        """Those who may have sent it."""
+        """The electors who may have sent the letter."""
         return COUPLE if self.name in COUPLE and not self.is_click else [self.name]
 
 
@@ -154,7 +154,7 @@ class Model:
         kept = self.kept(label, late=late)
         return [one.text if label is None else f"{one.name} {one.answers[label]}" for one in kept]
 
-    def counting(self) -> dict[str, Answers]:
+    def counted_answers(self) -> dict[str, Answers]:
         """What counts of each elector."""
         found: dict[str, Answers] = {name: {} for name in elections.NAMES}
         for one in self.kept():
@@ -195,7 +195,7 @@ class Model:
         return "waits" if self.is_closed else "goes in"
 
     def of_letters(self, is_meant: Callable[[Letter], object]) -> list[Letter]:
-        """Those that are meant, in the order of their times."""
+        """The letters that are meant, in the order of their times."""
         return sorted(filter(is_meant, self.letters), key=lambda one: one.time)
 
     def waiting(self, *, in_time: bool = False) -> list[Letter]:
@@ -270,7 +270,9 @@ class Model:
             "stopping": self.stopping(),
             "struck": sum(one.out == "strike" for one in self.envelopes),
             "taken_back": sum(map(self.is_lost, self.envelopes)),
-            "without_ballot": [name for name, answers in self.counting().items() if not answers],
+            "without_ballot": [
+                name for name, answers in self.counted_answers().items() if not answers
+            ],
         }
 
     def to_tell(self) -> set[tuple[str, str, int, bool]]:
@@ -311,7 +313,7 @@ class Model:
         ]
 
     def enter(self, ballots: list[Ballot], **how: bool):
-        """One act that enters them, if there are any; their letters are done."""
+        """One act that enters the ballots, if there are any; their letters are done."""
         self.acts += bool(ballots)
         for name, answers, letter in ballots:
             number, closes, time = len(self.envelopes) + 1, len(self.closes), self.now
@@ -640,7 +642,7 @@ class Played:
             self.assertEqual({*new}, {name for name, *_ in untold})
             for name, text in new.items():
                 counts = re.search("and it counts\\.|It counts unless", text)
-                self.assertEqual(bool(counts), bool(model.counting()[name]), text)
+                self.assertEqual(bool(counts), bool(model.counted_answers()[name]), text)
 
         return Step("letters receipts", check=check)
 
@@ -734,10 +736,10 @@ class Played:
         told = dict(
             re.findall(r"(?m)^(\d+) ((?:[ABC] )?(?:counted|replaced|late|bad) ?.*?)  ", output)
         )
-        counting = before.counting()
+        counted_answers = before.counted_answers()
         for number, one in [*enumerate(after.envelopes, start=1)][len(before.envelopes) :]:
             words = {
-                label: "replaced" if label in counting.get(one.name, {}) else "counted"
+                label: "replaced" if label in counted_answers.get(one.name, {}) else "counted"
                 for label in one.answers
             }
             said = {*words.values()}
@@ -746,7 +748,7 @@ class Played:
             )
             wanted = "late" if one.is_late else wanted if one.is_ballot else "bad "
             if one.is_ballot and not one.is_late:
-                counting[one.name] |= one.answers
+                counted_answers[one.name] |= one.answers
             found = told.pop(str(number), None)
             if found is not None or is_whole:
                 self.assertEqual(
@@ -791,7 +793,9 @@ class Played:
     def demand_published(self, model: Model, label: str, folder) -> str:
         """Files and sheet of a question, which is that of the second program."""
         standing = {
-            name: answers[label] for name, answers in model.counting().items() if label in answers
+            name: answers[label]
+            for name, answers in model.counted_answers().items()
+            if label in answers
         }
         lines = model.lines(label)
         if self.is_secret:
@@ -835,7 +839,7 @@ class Played:
     def demand_letters(self, model: Model):
         """The letter of the result has the ballot that counts, and so has `show`."""
         self.done("letters result --force --because x")
-        for name, answers in model.counting().items():
+        for name, answers in model.counted_answers().items():
             files = self.folder.rglob(f"letters/result/*/{name}.eml")
             last = max(files, key=lambda file: int(file.parent.name))
             letter = text_in(last.read_bytes())

@@ -175,14 +175,14 @@ class Followed:
     def refuse_some(self):
         if self.chance.random() < 0.3:
             name = self.chance.choice(NAMES[:-1])
-            answer = self.chance.choice(["450 later", "550 no"])
-            self.server.rcpt_answers[self.addresses[name]] = answer
+            reply = self.chance.choice(["450 later", "550 no"])
+            self.server.rcpt_answers[self.addresses[name]] = reply
             self.refused.add(name)
 
     def accept_later(self):
         """No server is so busy for long."""
-        for address, answer in [*self.server.rcpt_answers.items()]:
-            if answer.startswith("450"):
+        for address, reply in [*self.server.rcpt_answers.items()]:
+            if reply.startswith("450"):
                 del self.server.rcpt_answers[address]
 
     def do_all(self):

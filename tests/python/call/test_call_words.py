@@ -377,7 +377,7 @@ class Addresses(unittest.TestCase):
                 Fault, "^.*--at: it must be the address of a page, as https://"
             ) as caught:
                 demand_web_address(bad)
-            self.assertEqual(caught.exception.status, Status.BAD_WORDS)
+            self.assertEqual(caught.exception.status, Status.BAD_ARGUMENTS)
 
     def test_how_a_web_address_with_accents_is_written(self):
         """As a browser sends it, and not as it shows it."""

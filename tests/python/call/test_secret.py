@@ -281,11 +281,13 @@ class Slips(unittest.TestCase):
                 show(dataclasses.replace(call, language=language_of(code)), electors)
                 self.assertEqual(window.ask("document.documentElement.scrollWidth"), 390)
         # eight on a side of A4, with margins of 5 mm, in words of nine points at least
-        window.show(on_paper=True)
+        window.show(is_printed=True)
         window.resize(756, 1000)
-        on_paper = dataclasses.replace(CALL, at="https://example.org/vote/", has_lapsed_codes=True)
+        call_of_slips = dataclasses.replace(
+            CALL, at="https://example.org/vote/", has_lapsed_codes=True
+        )
         for code in LANGUAGES:
-            show(dataclasses.replace(on_paper, language=language_of(code)), ELECTORS)
+            show(dataclasses.replace(call_of_slips, language=language_of(code)), ELECTORS)
             # a machine may have a wider font alone; last, the one that it has
             for family in ("DejaVu Sans", "Verdana", ""):
                 ask = f"[...document.querySelectorAll('.slip')].map((slip) => (slip.style.fontFamily = '{family}', slip.getBoundingClientRect().height))"
@@ -327,7 +329,9 @@ class Slips(unittest.TestCase):
         for count, rows in ((2, 3), (6, 2), (12, 1)):
             printed.append((Questions(dict.fromkeys(LABELS[:count], fee), "Assembly 2026"), rows))
         for questions, rows in printed:
-            call = dataclasses.replace(on_paper, questions=questions, language=language_of("de"))
+            call = dataclasses.replace(
+                call_of_slips, questions=questions, language=language_of("de")
+            )
             page = show(call, electors)
             sides = -(-len(electors) // (2 * rows))
             count = window.ask("document.querySelectorAll('.slips').length")

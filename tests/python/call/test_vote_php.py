@@ -63,7 +63,7 @@ for one in ("enable=1", "enable_cli=1", "validate_timestamps=0", "file_update_pr
 
 
 def digest_of(name: str) -> str:
-    """That of the proof of an elector, as the host knows it."""
+    """The digest of the proof of an elector, as the host knows it."""
     return proof_digest(MARK, place_of(name))
 
 
@@ -93,7 +93,7 @@ BAD = [
     *(ASK[:-1], ASK + b"\n", b"a=" + ASK, *map(request_of, ASKED)),
     *(GOOD[:-1], GOOD + b"\n", GOOD.replace(b"\n", b"\r\n"), b"\xef\xbb\xbf" + GOOD),
     *(b"box=box=" + GOOD, GOOD.replace(b"0" * 30, b"g" * 30)),
-    # that of a page of before, which names no poll
+    # a ballot of a page of before, which names no poll
     GOOD.removeprefix(f"{PAGE} ".encode()),
     *(ballot("ada", "1,2", 77, page=page) for page in (PAGE[:-1], PAGE.upper())),
     # as before ballots were sealed
@@ -109,7 +109,7 @@ def click(host: Host, number: int, ranks: str = "1,2", name: str = "ada") -> Ans
     return host.send(ballot(name, ranks, number))
 
 
-class ClickTest(BoxTest):
+class ScriptTest(BoxTest):
     def assert_answer(self, answer: Answer, status: int, word: str):
         self.assertEqual((answer.status, answer.word), (status, word))
 
@@ -125,7 +125,7 @@ class ClickTest(BoxTest):
 
 
 @NEEDS_PHP
-class Requests(ClickTest):
+class Requests(ScriptTest):
     def host(self, *settings: str, **how: object) -> Host:
         """In another time zone than that of the records."""
         return super().host("-d", "date.timezone=Asia/Kolkata", *settings, **how)
@@ -330,7 +330,7 @@ class Requests(ClickTest):
 
 
 @NEEDS_PHP
-class Votes(ClickTest):
+class Votes(ScriptTest):
     def test_another_script_over_it_is_asked_at_once(self):
         """A host keeps compiled code, and has to see at once what is new below it."""
 
@@ -389,7 +389,7 @@ class Votes(ClickTest):
 
 
 @NEEDS_PHP
-class Broken(ClickTest):
+class Broken(ScriptTest):
     """The file was cut off, the disk is full or broken."""
 
     @pytest.mark.whole
@@ -477,7 +477,7 @@ class Broken(ClickTest):
 
 @NEEDS_PHP
 @unittest.skipUnless(STRACE, "strace is not installed")
-class Killed(ClickTest):
+class Killed(ScriptTest):
     """Calls of the system fail, and PHP is killed before each of them."""
 
     def traced(self, *how: object) -> Host:

@@ -21,7 +21,7 @@ LATER = "--until '2026-12-05 18:00' --zone Europe/Berlin"
 FIRST = "Friday, 4 December 2026, 18:00 (UTC+01:00)"
 SECOND = "Sunday, 6 December 2026, 18:00 (UTC+01:00)"
 MEMBERS = elections.members_of(elections.NAMES)
-# the same, and ben has a key
+# the list of members with the key of Ben
 KEYS = MEMBERS.replace("\n", ",\n").replace("mail,", "mail,key")
 KEYS = KEYS.replace("ben@club.example,", f"ben@club.example,{'A' * 40}")
 # where the note of an act takes its place

@@ -211,7 +211,7 @@ class NamesAreCompleted(TerminalTest):
             shown = f"` was {completed}clara-muller-lange: At the lake, "
             desk.after(f"{typed}1, 2,4,3\n", shown, CAST)
             desk.after("n\n", "Ballot: ")
-        # one that is whole
+        # a name that is whole, and part of another
         self.assertRegex(desk.after("ben 1,2,4,3\n", CAST), "(?m)^(Ballot: )?ben: At the lake, ")
         refused = f"{completed}It would be refused: clara-muller-lange 1 2 4 3: "
         desk.after("n\nclara 1 2 4 3\n", refused, CAST_REFUSED)
@@ -262,7 +262,7 @@ class WholeNames(TerminalTest):
     members += "Maximilian Mayer,max,\nMax,max-2,\n"
 
     def test_they_come_before_parts(self):
-        """That of one elector alone is that elector's; of those who have it one is chosen."""
+        """A name of one elector alone is that elector's; of those who share it one is chosen."""
         desk = self.at_terminal()
         changed = f"` was changed to `meier {RANKS}`\nmeier: At the lake, "
         desk.after(f"Anna  Meier {RANKS}\n", changed, CAST)

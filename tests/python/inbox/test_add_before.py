@@ -110,8 +110,8 @@ class Before(CalledTest):
             self.assert_ignored(1, 1, said, f"\n{number} counted  ben: ", name="monday")
 
     def test_an_older_line_above_one_that_came_before(self):
-        """The file says that the other one is the newer one. Below it a line is newer, and a third
-        one again.
+        """By the order of the file the line that came before is the newer one. Below it a line is
+        newer, and so is the first one again below that.
         """
         older, newer = f"cleo {RANKS}\n", f"cleo {OTHER_RANKS}\n"
         self.adds(newer)

@@ -49,7 +49,7 @@ class AskingTest(unittest.TestCase):
         self.assertNotIn(WORD, fault.words)
 
     def refuses(self, sent: Iterable[bytes | float], *parts: str):
-        """The same, where a host answers this."""
+        """Asking stops so where a host answers this."""
         with self.subTest(parts[0]), Liar(lambda request: sent) as host:
             self.stopped(host.at, f"{host.at}vote.php: ", *parts)
 
@@ -164,7 +164,7 @@ vote/
                 self.stopped(
                     at,
                     "--box: the page needs an address by https that ends in / or .html",
-                    status=Status.BAD_WORDS,
+                    status=Status.BAD_ARGUMENTS,
                 )
 
 

@@ -133,7 +133,7 @@ class End(boxes.BoxElectionTest):
     def test_a_host_that_is_ahead_and_one_that_is_put_right_before_it_is_asked(self):
         self.demand_decided(180, 0, ["ada"], "ben")
 
-    def demand_decided(self, ahead: int, at_last: int, counting: list[str], waiting: str):
+    def demand_decided(self, ahead: int, at_last: int, counted: list[str], waiting: str):
         """Four electors click, before the end and after it, by four minutes and by one. What the
         clock of the host could take across the end waits, on either side of it.
         """
@@ -145,16 +145,16 @@ class End(boxes.BoxElectionTest):
         self.off(END + 300)
         self.host_off(END + 300 + at_last)
         said = self.add_box()
-        late = [name for name in CLICKING if name not in (*counting, waiting)]
+        late = [name for name in CLICKING if name not in (*counted, waiting)]
         self.assertEqual((len(re.findall(NEAR, said)), said.count(AFTER)), (1, len(late)), said)
-        self.assert_standing(**dict.fromkeys(counting, RANKS))
-        told = dict.fromkeys(counting, COUNTS) | dict.fromkeys(late, [LATE])
+        self.assert_standing(**dict.fromkeys(counted, RANKS))
+        told = dict.fromkeys(counted, COUNTS) | dict.fromkeys(late, [LATE])
         self.demand_told(**told, **{waiting: [LOOKED_AT]})
         # the secretary, who knows more, decides: before that nothing is closed
         number = [*CLICKING].index(waiting) + 1
         self.refused("close", f"these letters arrived in time, and wait: {number};")
         self.done(f"held {number} --enter")
-        self.assert_standing(**dict.fromkeys((*counting, waiting), RANKS))
+        self.assert_standing(**dict.fromkeys((*counted, waiting), RANKS))
         self.demand_told(**{waiting: COUNTS})
         # of what is known to have come after the end, and counts all the same, everybody is told
         self.done("held 4 --enter")

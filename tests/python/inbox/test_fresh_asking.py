@@ -209,7 +209,7 @@ class Closes(AskedTest):
         only = f"was not asked since the end: when the web box was asked last, it was only {there:%Y-%m-%d %H:%M:%S} UTC+01:00 by its own clock; act "
         cure = "run the command again; if it does not answer any more, close with --force --because TEXT (the result page says so)"
         self.assert_fault(ended, 9, only, cure)
-        # one that does not answer stops it as ever, and by force it goes on without an asking
+        # a host that does not answer stops the close as ever, and by force it goes on unasked
         self.host.__exit__()
         before = len(self.acts())
         ended = self.election("close")
@@ -234,7 +234,7 @@ class Closes(AskedTest):
         self.off(-1800)
         self.done("add --box")
         self.done("close --early")
-        # that of `count` itself has this second, too
+        # the asking by `count` itself has this second, too
         fault = "--box: the web box was not asked since the vote was closed early"
         self.assertIn(fault, self.election("count").faults)
 

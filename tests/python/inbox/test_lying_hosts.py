@@ -323,7 +323,7 @@ class Clocks(unittest.TestCase):
         ):
             wanted = wanted if wanted == IN else f"waits: {wanted}"
             self.assertEqual(self.becomes(opened(**fields)), [wanted], fields)
-        # that of a file is in the order of the devices
+        # the time of a record in a file is in the order of the devices
         for minutes, wanted in ((9, 9), (11, 0)):
             [one] = judged(opened(sent=at(10) + minutes * MINUTE, is_fetched=True), box_key=KEY)
             self.assertEqual(one.time, at(10) + wanted * MINUTE)

@@ -50,7 +50,7 @@ ROLL = (*NAMES, "kim-no")
 
 
 class MotionReader(DebvoteReader):
-    """The same of a motion."""
+    """Asks debvote about ballots on a motion."""
 
     poll = f"{MOTION}roll = {json.dumps(ROLL)}\n"
     known = {}

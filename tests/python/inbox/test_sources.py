@@ -22,10 +22,13 @@ from debvote_tools.inbox.mailbox import (
     sections_of,
 )
 
+from tests.support.election_books import LettersTest
 from tests.support.letters import (
+    BALLOT,
     NAMES,
     RANDOM_LETTERS,
     RANKS,
+    ballot,
     letter,
     mailbox,
     outcomes,
@@ -383,3 +386,19 @@ class Folders(unittest.TestCase):
         with unittest.mock.patch.object(pathlib.Path, "iterdir", listed):
             wanted |= {"new/1.host": NotRead.NO_LETTER}
             self.assertEqual(self.found(), (["cur/1.host:2,S", "cur/2.host:2,S"], wanted))
+
+
+class AddedFolder(LettersTest):
+    def test_files_of_a_folder(self):
+        folder = self.scratch / "mail"
+        (folder / "sub").mkdir(parents=True)
+        for name in (".hidden.eml", "sub/x.eml"):
+            (folder / name).write_bytes(letter("ada", BALLOT))
+        (folder / "a\nb.eml").write_bytes(self.of_this_vote(ballot("ben")))
+        os.mkfifo(folder / "pipe.eml")
+        (folder / "link.eml").symlink_to("nowhere")
+        # of a long path the end is not shown
+        what = "hidden file", "a folder within the folder", "pipe.eml: {}", "link.eml: {}"
+        no_letter = "it does not look like a letter"
+        self.tells("add --yes ../mail", *(part.format(no_letter) for part in what))
+        self.assert_lines(f"ben {RANKS}")

@@ -22,25 +22,25 @@ SSHD = shutil.which("sshd", path="/usr/sbin:/usr/bin")
 class BySsh(CalledTest):
     def setUp(self):
         super().setUp()
-        self.room = self.scratch / "ssh"
-        self.room.mkdir(mode=0o700)
+        self.ssh_folder = self.scratch / "ssh"
+        self.ssh_folder.mkdir(mode=0o700)
         for name in ("host", "helper"):
-            words = ["ssh-keygen", "-q", "-t", "ed25519", "-N", "", "-f", self.room / name]
+            words = ["ssh-keygen", "-q", "-t", "ed25519", "-N", "", "-f", self.ssh_folder / name]
             subprocess.run(words, check=True, stdin=subprocess.DEVNULL)
         env = elections.environment()
         # what is in the secretary's profile otherwise
         program = f"env XDG_STATE_HOME={self.state} PATH={env['PATH']} {elections.ELECTION}"
         desk = f"{program} --folder {self.folder} desk --name 'Table 2'"
-        key = (self.room / "helper.pub").read_text()
-        (self.room / "keys").write_text(f'restrict,pty,command="{desk}" {key}')
-        (self.room / "keys").chmod(0o600)
+        key = (self.ssh_folder / "helper.pub").read_text()
+        (self.ssh_folder / "keys").write_text(f'restrict,pty,command="{desk}" {key}')
+        (self.ssh_folder / "keys").chmod(0o600)
         with socket.socket() as free:
             free.bind(("127.0.0.1", 0))
             self.port = free.getsockname()[1]
         settings = {
             "ListenAddress": f"127.0.0.1:{self.port}",
-            "HostKey": self.room / "host",
-            "AuthorizedKeysFile": self.room / "keys",
+            "HostKey": self.ssh_folder / "host",
+            "AuthorizedKeysFile": self.ssh_folder / "keys",
             "StrictModes": "no",
             "PidFile": "none",
             "UsePAM": "no",
@@ -65,7 +65,9 @@ class BySsh(CalledTest):
     def ssh(self, *words, typed="", options=()):
         """What a helper sees who types this."""
         trust = "-F none -o StrictHostKeyChecking=no -o UserKnownHostsFile=/dev/null"
-        where = f"-q -p {self.port} -i {self.room}/helper {trust} {getpass.getuser()}@127.0.0.1"
+        where = (
+            f"-q -p {self.port} -i {self.ssh_folder}/helper {trust} {getpass.getuser()}@127.0.0.1"
+        )
         ended = subprocess.run(
             ["ssh", *(options or ["-tt"]), *where.split(), *words],
             input=typed,

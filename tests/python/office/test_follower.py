@@ -25,7 +25,7 @@ class ByButtons(test_what_next.Followed):
     """The same elections, of which the secretary sees the overview alone."""
 
     def do_all(self):
-        # its clock is that of its beginning
+        # the clock of an office is that of its beginning
         office = offices.Office(self)
         text = office.page()
         pressed = list[str]()

@@ -1,4 +1,4 @@
-"""Letters on the pages of the office."""
+"""Letters on the pages of the office: what is asked of each, and what no other page says of it."""
 
 import re
 from unittest import mock

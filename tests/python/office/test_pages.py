@@ -153,7 +153,7 @@ class AsATerminal(ElectionTest):
         self.done("close", "--yes")
         self.election("publish")
         by_hand = self.rows(query)
-        # that of the publication names files with their times
+        # the act of the publication names files with their times
         self.assertEqual([acts.pop()[0], *acts], [by_hand.pop()[0], *by_hand])
 
 

@@ -274,14 +274,14 @@ class Paper(OutTest):
         self.assertEqual(found, [[(who, name[1])], [("Eve", "eve")]])
         self.assertNotIn("script", second)
         # the link as a QR code, if there is what makes one
-        pictures = [
+        qr_codes = [
             *map(
                 re.compile(r"(?s)#(?:ada-.*|eve)/\w{10}</p><svg.*?</svg>").findall, (first, second)
             )
         ]
         if importlib.util.find_spec("segno"):
-            self.assertEqual([len(found) for found in pictures], [1, 1])
-            self.assertNotEqual(*pictures)
+            self.assertEqual([len(found) for found in qr_codes], [1, 1])
+            self.assertNotEqual(*qr_codes)
         self.assertEqual([state for _, state in self.rows("call")], ["written"] * 3)
         # who asks for it once more gets the same
         self.assertIn("Wrote 1 letter, none of them new: ", self.done("letters call").output)

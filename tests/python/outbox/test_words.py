@@ -76,8 +76,8 @@ def typed(number: int, line: str) -> EnteredBallot:
     )
 
 
-def envelope(number: int, line: str, answer: str | None = None) -> Envelope:
-    return Envelope(number, number, 1, line.encode(), None, 1, "", TIME, False, None, answer)
+def envelope(number: int, line: str, why_refused: str | None = None) -> Envelope:
+    return Envelope(number, number, 1, line.encode(), None, 1, "", TIME, False, None, why_refused)
 
 
 def all_that_came(answers: str = "1,2,3") -> list[Fate]:
@@ -87,9 +87,7 @@ def all_that_came(answers: str = "1,2,3") -> list[Fate]:
         "bad not on roll: bob is not on the roll",
         'bad shape: column 9: "x"',
     ]
-    read = [
-        ReadLine(number, ("ada",), "1", answer) for number, answer in enumerate([*refused, None])
-    ]
+    read = [ReadLine(number, ("ada",), "1", why) for number, why in enumerate([*refused, None])]
     line = f"ada {answers}"
     source = came_letter(None, entered=[typed(2, line)])
     fates = [
@@ -97,9 +95,7 @@ def all_that_came(answers: str = "1,2,3") -> list[Fate]:
         for number, became in enumerate(OF_BALLOT)
         if became != REFUSED
     ]
-    fates += [
-        Fate(TIME, REFUSED, envelope(9, "ada 1", answer), came_by=source) for answer in refused
-    ]
+    fates += [Fate(TIME, REFUSED, envelope(9, "ada 1", why), came_by=source) for why in refused]
     for outcome, is_own, standing in itertools.product(
         (Ruling.WAITS, Ruling.SET_ASIDE), (True, False), ([], [typed(2, line)])
     ):
@@ -600,7 +596,7 @@ class Bytes(unittest.TestCase):
     def test_one_fault_a_line(self):
         ranks = "bad rank count: {} ranks, the poll has 3 options".format
         said = "One of its answers has {}, and the question has 3 options.".format
-        for answer, is_of_several, wanted in (
+        for verdict, is_of_several, wanted in (
             ("bad shape: it is odd", False, "It is not written"),
             (None, False, "It is a ballot"),
             ("bad not on roll: bob", False, "The name in it"),
@@ -608,6 +604,6 @@ class Bytes(unittest.TestCase):
             (ranks(1), True, said("1 rank")),
             (ranks(4), True, said("4 ranks")),
         ):
-            [found] = faults_of(answer, "", language_of("en"), is_of_several=is_of_several)
+            [found] = faults_of(verdict, "", language_of("en"), is_of_several=is_of_several)
             self.assertTrue(found.startswith(wanted), found)
         self.assertEqual([*faults_of("late: x", "", language_of("en"))], [])

@@ -68,7 +68,7 @@ FOCUS = """(() => {
 })()"""
 
 
-# opens all that is folded
+# opens what the page folds away, such as how a ballot is written and the checksums of the polls
 UNFOLD = "document.querySelectorAll('details').forEach((node) => { node.open = true; })"
 # whether each option has a box in which a rank is written by hand, and its name is not below it
 BOXES = """[...document.querySelectorAll(".option")].map((option) => { const box = getComputedStyle(option, "::after");
@@ -402,7 +402,7 @@ class Several(PageTest):
         )
         self.open(call_of())
         self.ballot("ada", "12----11")
-        self.window.show(on_paper=True)
+        self.window.show(is_printed=True)
         # a paper to be filled in has nothing of what was chosen
         self.assert_seen(shown, *unseen, "ada\nA 1,2")
         self.sees("document.querySelector('#Ballot ul').checkVisibility()", False)
@@ -640,7 +640,7 @@ class Looks(PageTest):
         self.open_without_script(replace(CALL, questions=alone(poll)))
         self.assert_seen(("Vote until", "Sell the house", *texts, "Short.", "The poll"), *unseen)
         self.open_poll(poll)
-        self.window.show(on_paper=True)
+        self.window.show(is_printed=True)
         self.ask("dispatchEvent(new Event('beforeprint'))")
         seen = (*texts, "majority ratio 3", "The roll has 4 electors.", "ada", poll.checksum)
         self.assert_seen(seen, *unseen, "Give at least", "1\n2\n3")

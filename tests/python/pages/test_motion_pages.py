@@ -14,7 +14,7 @@ from debvote_tools.text.motions import RANKS, WORDS
 
 from tests.python.pages.test_call_page import PageTest, text_of
 from tests.support import call_examples
-from tests.support.publishing import PLAIN_POLL, ResultPageTest, plain_room
+from tests.support.publishing import PLAIN_POLL, ResultPageTest, plain_folder
 
 POLL = SealedPoll("The fee", ("Raise it",), (1,), "No, as it is", 0, ("ada", "ben"), motion=True)
 CALL = replace(
@@ -66,13 +66,13 @@ class Form(PageTest):
         page = call_page(CALL)
         bare = re.sub(rb"<script>.*?</script>", b"", page, flags=re.DOTALL)
         self.assertNotEqual(bare, page)
-        for shown, on_paper in ((page, True), (bare, False)):
+        for shown, is_printed in ((page, True), (bare, False)):
             self.open(CALL, page=shown)
-            self.window.show(on_paper=on_paper)
+            self.window.show(is_printed=is_printed)
             # on paper a word is marked, and no rank is written
             self.sees(
                 """[...document.querySelectorAll(".rank, .option .name")].filter((node) => node.checkVisibility()).map((node) => node.textContent)""",
-                ["Raise it", "No, as it is"] + ["YesNoAbstain"] * on_paper,
+                ["Raise it", "No, as it is"] + ["YesNoAbstain"] * is_printed,
             )
             boxes = "[...document.querySelectorAll('.option')].map((node) => getComputedStyle(node, '::after').content)"
             self.sees(boxes, ["none"] * 2)
@@ -94,10 +94,10 @@ class Result(ResultPageTest):
     def made_in(self, language: str) -> pathlib.Path:
         """A folder with the result of a motion."""
         ballots = "ada 1,2\nben 7,-\ncleo -,-\ndan 2,1\n"
-        room = plain_room(self.scratch / language, OPEN_POLL, ballots)
-        poll = read_plain((room / "poll.toml").read_bytes(), motion=True)
+        folder = plain_folder(self.scratch / language, OPEN_POLL, ballots)
+        poll = read_plain((folder / "poll.toml").read_bytes(), motion=True)
         how = {"questions": Questions({"": poll}), "language": language_of(language)}
-        return self.published(room, f"{language}-made", **how)
+        return self.published(folder, f"{language}-made", **how)
 
     def test_answers_in_words(self):
         """As the script finds them, which counts again in each language; where a name begins with

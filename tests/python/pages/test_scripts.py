@@ -9,7 +9,7 @@ from debvote_tools.sheet import sheet_in
 
 from tests.support import at_browser, publishing
 from tests.support.program import PROGRAM
-from tests.support.publishing import FILES, plain_room, publish
+from tests.support.publishing import FILES, plain_folder, publish
 
 # names that people read, and recasts, a refused line and an elector who did not vote
 POLL = (
@@ -39,12 +39,12 @@ class ScriptsTest(publishing.ResultPageTest):
     @classmethod
     def setUpClass(cls):
         super().setUpClass()
-        cls.room = plain_room(cls.scratch / "open", POLL, BALLOTS)
-        cls.told = publish(cls.room, *FILES, "result")
+        cls.folder = plain_folder(cls.scratch / "open", POLL, BALLOTS)
+        cls.told = publish(cls.folder, *FILES, "result")
         roll = [alias_of(cls.code, name) for name in ("ada", "zoe-muller", "ben", "cleo")]
         ballots = [f"{alias} {ranks}\n" for alias, ranks in zip(roll, ["1,2,3", "2,1,-", "1,1,1"])]
         poll = poll_for(sorted(roll), secret=True)
-        cls.secret = plain_room(cls.scratch / "secret", poll, "".join(sorted(ballots)))
+        cls.secret = plain_folder(cls.scratch / "secret", poll, "".join(sorted(ballots)))
         cls.told_in_secret = publish(cls.secret, *FILES, "result")
 
     def tearDown(self):
@@ -62,11 +62,11 @@ class ScriptsTest(publishing.ResultPageTest):
         found = self.window.find(typed, code)[1:]
         self.assertEqual(found, [*names, f"The line: {line}"], typed)
 
-    def published_room(self, name, poll, ballots=publishing.PLAIN_BALLOTS):
-        """A room with the result of these files."""
-        room = plain_room(self.scratch / name, poll, ballots)
-        self.assertIn(publish(room, *FILES, "result")[2], (0, 1))
-        return room
+    def published_folder(self, name, poll, ballots=publishing.PLAIN_BALLOTS):
+        """A folder with the result of these files."""
+        folder = plain_folder(self.scratch / name, poll, ballots)
+        self.assertIn(publish(folder, *FILES, "result")[2], (0, 1))
+        return folder
 
     def test_finding_a_ballot(self):
         self.assertEqual(self.told, ("Winner: 2 B\nverified\n", "", 0))
@@ -99,7 +99,7 @@ class ScriptsTest(publishing.ResultPageTest):
         """A page that is opened at a name has its ballot in a line below the panel; nothing
         scrolls, no list opens, and nothing is typed.
         """
-        window, page = self.page_of(), self.room / "result" / "index.html"
+        window, page = self.page_of(), self.folder / "result" / "index.html"
         ballots = {
             "ben": ["ben: counted", '<i>B</i> & "C" and N equally', "Not ranked: 72 Euro"],
             "ada": ["ada: counted", '<i>B</i> & "C"', "72 Euro", "Not ranked: N"],
@@ -133,9 +133,9 @@ class ScriptsTest(publishing.ResultPageTest):
         """
         poll = poll_for(["anna-meier", "ben-lee", "eve-lee", "dan"])
         ballots = "anna-meier 10,9,3\ndan 1,2\ndan-x 1,2,3\nEVE-LEE: 1;2\n"
-        room = plain_room(self.scratch / "family", poll, ballots)
+        folder = plain_folder(self.scratch / "family", poll, ballots)
         real_names = {"anna-meier": "Anna Meier", "dan": "Dan"}
-        published = self.published(room, "family-names", real_names=real_names)
+        published = self.published(folder, "family-names", real_names=real_names)
         # the default option has won, whose page has the numbers of the others
         said = self.page_of(published, ("<span><b>0</b> for", "<span><b>1</b> for")).count_again()
         self.assert_page_differs(said, ": the result. ")
@@ -170,7 +170,7 @@ class ScriptsTest(publishing.ResultPageTest):
             poll = publishing.PLAIN_POLL.replace('["A", "B"]', json.dumps(names))
             poll = poll.replace("[1, 1]", f"{[1] * len(names)}")
             line = f"ada {','.join(map(str, range(1, number + 1)))}\n"
-            window = self.page_of(self.published_room(f"{number}-rows", poll, line))
+            window = self.page_of(self.published_folder(f"{number}-rows", poll, line))
             if is_smaller is None:
                 window.resize(360, 640)
                 window.ask("document.getElementById('Votes').closest('details').open = true")
@@ -178,7 +178,7 @@ class ScriptsTest(publishing.ResultPageTest):
                 self.assertEqual(window.broken_words(heads), [])
                 self.sees("document.documentElement.scrollWidth", 360)
                 continue
-            window.show(on_paper=True)
+            window.show(is_printed=True)
             window.resize(717, 900)
             size, around, *wide = window.ask(
                 """[...['table', 'body'].map((part) => parseFloat(getComputedStyle(document.querySelector(part)).fontSize)),
@@ -194,8 +194,8 @@ class ScriptsTest(publishing.ResultPageTest):
         for length in (60, 61):
             name = ("Ein Name aus vielen Worten und noch mehr " * 2)[:length]
             shown = f"shown_options = {json.dumps([name, 'B ' * 90, 'N ' * 80])}\n"
-            room = self.published_room(f"names-of-{length}", publishing.PLAIN_POLL + shown)
-            window = self.page_of(room)
+            folder = self.published_folder(f"names-of-{length}", publishing.PLAIN_POLL + shown)
+            window = self.page_of(folder)
             size = "parseFloat(getComputedStyle(document.getElementById('Result')).fontSize)"
             sizes.append(window.ask(size))
         self.assertGreater(sizes[0], sizes[1])
@@ -208,7 +208,7 @@ class ScriptsTest(publishing.ResultPageTest):
             self.sees(f"[{at_browser.LONE_NUMBERS}, {beside}]", [[], is_beside], width)
         # a ballot with names that are too long has their numbers alone on paper; a page with
         # something wider is printed smaller: a picture is drawn as small as the paper is
-        window.show(on_paper=True)
+        window.show(is_printed=True)
         window.resize(700, 900)
         self.sees(
             """[...['.ballots i', '.ballots bdi', '.duels bdi'].map((place) => document.querySelector(place).checkVisibility()),
@@ -221,8 +221,8 @@ class ScriptsTest(publishing.ResultPageTest):
         for length in (200, 201):
             shown = json.dumps(["A" * 100, "B" * 99, "N" * (length - 199)])
             poll = f"{publishing.PLAIN_POLL}shown_options = {shown}\n"
-            room = self.published_room(f"{length} characters", poll)
-            page = (room / "result" / "index.html").read_text()
+            folder = self.published_folder(f"{length} characters", poll)
+            page = (folder / "result" / "index.html").read_text()
             self.assertEqual('<ul class="ballots long">' in page, length > 200)
 
     def test_electors_with_names_of_things_of_the_page(self):
@@ -230,7 +230,7 @@ class ScriptsTest(publishing.ResultPageTest):
         places = "find code show answer votes name result again poll-file ballots"
         roll = [*places.split(), cut, "anna-meier", "graph0"]
         ballots = "".join(f"{name} 1,2,3\n" for name in roll[:-1])
-        window = self.page_of(self.published_room("names", poll_for(roll), ballots))
+        window = self.page_of(self.published_folder("names", poll_for(roll), ballots))
         for name in roll[:-1]:
             self.finds(name, f"{name}: counted", "A", "B", "N", f"The line: {name} 1,2,3")
         self.finds("graph0", NONE_COUNTS.format("graph0"))
@@ -298,10 +298,10 @@ class ScriptsTest(publishing.ResultPageTest):
     def test_finding_a_ballot_by_its_code(self):
         """Where codes are on the roll, half a code is not called the code of nobody."""
         zoe, cleo = "7kq3m9xw2a", "b2c3d4e5f6"
-        room = plain_room(
+        folder = plain_folder(
             self.scratch / "drawn codes", poll_for([zoe, cleo], secret=True), f"{zoe} 2,1,-\n"
         )
-        self.page_of(self.published(room, "codes", has_codes=True))
+        self.page_of(self.published(folder, "codes", has_codes=True))
         typed = f"{zoe[:5].upper()} {zoe[5:]}"
         self.finds_ballot(typed, f"{zoe} 2,1,-", "B", "A", "Not ranked: N")
         said = "A code has 10 signs, digits and small letters. Type yours as it is on your slip."
@@ -324,7 +324,7 @@ class ScriptsTest(publishing.ResultPageTest):
         real name both are shown.
         """
         real_names = {"ada": "Zoë", "ben": "Zoë", "dan": "Dan"}
-        window = self.page_of(self.published(self.room, "real names", real_names=real_names))
+        window = self.page_of(self.published(self.folder, "real names", real_names=real_names))
         counts = [said for said in window.find("zoe") if said.endswith(": counted")]
         self.assertEqual(counts, ["ada: counted", "ben: counted"])
         window.ask("document.getElementById('Name').focus()")
@@ -354,7 +354,7 @@ class ScriptsTest(publishing.ResultPageTest):
         for event, count in (("beforeprint", 9), ("afterprint", 2)):
             window.ask(f"dispatchEvent(new Event('{event}'))")
             self.sees(f"{unfolded}.length", count)
-        window.show(on_paper=True)
+        window.show(is_printed=True)
         self.page_of()
         seen = "[...document.querySelectorAll('.folded')].map((part) => part.children[1].getBoundingClientRect().height > 0)"
         self.sees(f"[{seen}, {unfolded}]", [[True] * 8 + [False], []])
@@ -370,7 +370,7 @@ class ScriptsTest(publishing.ResultPageTest):
 
     def test_counting_again(self):
         """Also a changed page of a result of which it says so, and what."""
-        folder = self.room / "result"
+        folder = self.folder / "result"
         window = self.page_of()
         rows, lines = window.count_again(), (folder / "sheet.txt").read_text().count("\n")
         same = f"{SAME}: this count comes to the published sheet, in all its {lines} lines."
@@ -418,7 +418,7 @@ class ScriptsTest(publishing.ResultPageTest):
             self.assert_page_differs(self.page_of(change=change).count_again(), what)
 
     def test_files_from_the_disk(self):
-        folder, window = self.room / "result", self.page_of()
+        folder, window = self.folder / "result", self.page_of()
         names = ("poll.toml", "ballots.txt", "sheet.txt")
         files = {name: (folder / name).read_bytes() for name in names}
         poll, ballots, sheet = files.values()

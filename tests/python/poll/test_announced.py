@@ -27,7 +27,7 @@ class Until(unittest.TestCase):
             parse_until(text, zone)
         self.assertEqual(
             (caught.exception.status, caught.exception.done),
-            (Status.BAD_WORDS, "nothing was changed"),
+            (Status.BAD_ARGUMENTS, "nothing was changed"),
         )
 
     def test_forms(self):

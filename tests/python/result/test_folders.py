@@ -72,7 +72,7 @@ def try_names(expect, scratch):
     """The names that people read stand where names stand, and the plain ones in the list of the
     options alone. Returns the folder.
     """
-    room = publishing.room_with(scratch / "names", "supermajority_and_recasts")
+    folder = publishing.folder_with(scratch / "names", "supermajority_and_recasts")
     keys = {
         "shown_title": "Ob die Satzung geändert wird",
         "shown_options": [HOSTILE, "72 Euro", "דיון נוסף"],
@@ -80,11 +80,13 @@ def try_names(expect, scratch):
         "deadline": "2026-12-04T18:00:00+01:00",
         "note": "not kept",
     }
-    poll = publishing.plain(keys) + (room / "poll.toml").read_bytes()
-    (room / "poll.toml").write_bytes(poll)
-    expect("names: its status", publishing.publish(room, *publishing.FILES, "result")[1:], ("", 0))
+    poll = publishing.plain(keys) + (folder / "poll.toml").read_bytes()
+    (folder / "poll.toml").write_bytes(poll)
+    expect(
+        "names: its status", publishing.publish(folder, *publishing.FILES, "result")[1:], ("", 0)
+    )
     poll, page, letter = (
-        (room / "result" / name).read_text() for name in ("poll.toml", "index.html", "letter.txt")
+        (folder / "result" / name).read_text() for name in ("poll.toml", "index.html", "letter.txt")
     )
     expect("names: the poll keeps what is sealed", "note" in poll, False)
     whose = f"About <i>1</i>\u00a0<bdi>{page_parts.escaped(HOSTILE)}</bdi>, in the words of those who publish this page."
@@ -103,7 +105,7 @@ def try_names(expect, scratch):
     expect("names: nothing runs", (page.count("<script"), "<img" in page), (1, False))
     for said in ("Ob die Satzung geändert wird", "Winner: Option 2: 72 Euro"):
         expect("names: the letter", said in letter, True)
-    return room / "result"
+    return folder / "result"
 
 
 # what is told of ballots, and what the page says
@@ -128,21 +130,21 @@ def try_slip(expect, name, scratch):
     """What is told of the ballots, and what stands on the page. Returns the folder."""
     ballots, doubts, number = SLIPS[name]
     told, shown = ([pair[place].format(number) for pair in doubts] for place in (0, 1))
-    room = publishing.plain_room(scratch / "slips" / name.replace(" ", "-"), ballots=ballots)
-    output, faults, status = publishing.publish(room, *publishing.FILES, "result")
+    folder = publishing.plain_folder(scratch / "slips" / name.replace(" ", "-"), ballots=ballots)
+    output, faults, status = publishing.publish(folder, *publishing.FILES, "result")
     notes = "".join(f"Note: {line}; the result page says so\n" for line in told)
     expect(f"{name}: what is told", faults, notes)
-    sheet, _, wanted = publishing.run([publishing.PROGRAM, "count", *publishing.FILES], cwd=room)
+    sheet, _, wanted = publishing.run([publishing.PROGRAM, "count", *publishing.FILES], cwd=folder)
     ended = sheet.splitlines()[-1] + "\nverified\n", wanted
     expect(f"{name}: how it ended", (output, status), ended)
-    text = (room / "result" / "index.html").read_text()
+    text = (folder / "result" / "index.html").read_text()
     below = text.partition("<body>")[2].partition("</section>")[2].partition("<script>")[0]
     # in the part of the result alone
     found = page_parts.doubts_of(text), "doubts" in below
     expect(f"{name}: what the page says", found, (shown, False))
-    page_parts.try_page(expect, name, room / "result")
-    result_checks.try_published(expect, name, room / "result", None)
-    return room / "result"
+    page_parts.try_page(expect, name, folder / "result")
+    result_checks.try_published(expect, name, folder / "result", None)
+    return folder / "result"
 
 
 def large_poll(options, electors):
@@ -162,20 +164,20 @@ def large_poll(options, electors):
 def publish_large(expect, scratch, options, electors):
     """Publishes a large election, and says how many bytes it has. Returns the folder."""
     name = f"{options}-options-{electors}-electors"
-    room = publishing.plain_room(scratch / name, *large_poll(options, electors))
-    status = publishing.publish(room, *publishing.FILES, name)[2]
+    folder = publishing.plain_folder(scratch / name, *large_poll(options, electors))
+    status = publishing.publish(folder, *publishing.FILES, name)[2]
     # whether it is a tie does not matter here
     expect(f"{name}: its status", status in (0, 1), True)
-    sizes = {file.name: file.stat().st_size for file in (room / name).iterdir()}
+    sizes = {file.name: file.stat().st_size for file in (folder / name).iterdir()}
     size = sizes["index.html"]
     print(f"{name}: index.html {size} bytes, the folder {sum(sizes.values())} bytes", flush=True)
     expect(f"{name}: its bytes", size < publishing.LARGEST_PAGE, True)
-    page = (room / name / "index.html").read_text()
+    page = (folder / name / "index.html").read_text()
     parts = ('<div class="picture">\n<svg', 'href="picture.svg"', "scrolls sideways by itself")
     if "picture.svg" in sizes:
         wanted = [options <= 12, True, options <= 12]
         expect(f"{name}: its picture", [part in page for part in parts], wanted)
-    return room / name
+    return folder / name
 
 
 class FoldersTest(looks.LooksTest):
@@ -185,8 +187,8 @@ class FoldersTest(looks.LooksTest):
         # told as the winner alone
         words = '"A, casting option 2 is not among them"'
         poll = publishing.PLAIN_POLL.replace('"A"', words)
-        room = publishing.plain_room(cls.scratch / "of-words", poll)
-        words = "words-of-the-sheet", room / "poll.toml", room / "ballots", []
+        folder = publishing.plain_folder(cls.scratch / "of-words", poll)
+        words = "words-of-the-sheet", folder / "poll.toml", folder / "ballots", []
         # of each folder what its casting vote is for
         cls.castings = {}
         for name, poll, ballots, more in (*examples.elections(cls.scratch), words):

@@ -10,8 +10,8 @@ import unittest
 import xml.etree.ElementTree as xml
 
 from tests.support import page_parts as pages, publishing
-from tests.support.publishing import FILES, HAS_PICTURES, PATH, PLAIN_POLL, SECONDS, plain_room
-from tests.support.publishing import publish, room_with
+from tests.support.publishing import FILES, HAS_PICTURES, PATH, PLAIN_POLL, SECONDS, folder_with
+from tests.support.publishing import plain_folder, publish
 
 MORE = "a ballot has a space there, or more of the name: a to z, 0 to 9, . or -"
 NAME = "a ballot has the name there: a to z, 0 to 9, . or -"
@@ -35,17 +35,17 @@ NUMBERS = ("line 4", "line 5", "line 6", "line 7", "lines 8 to 9", "line 10", "l
 
 
 class GivenTest(publishing.PublishTest):
-    def page_of(self, room, *words):
+    def page_of(self, folder, *words):
         """The page of a result that is published with these words."""
-        self.assertEqual(publish(room, *FILES, *words)[2], 0)
-        return (room / words[-1] / "index.html").read_text()
+        self.assertEqual(publish(folder, *FILES, *words)[2], 0)
+        return (folder / words[-1] / "index.html").read_text()
 
     def refused_lines(self, page):
         return [entry.text() for entry in pages.sections_of(page)["Refused-lines"].all("li")]
 
     def test_honest_words(self):
         page = self.page_of(
-            room_with(self.scratch / "honest", "supermajority_and_recasts"), "result"
+            folder_with(self.scratch / "honest", "supermajority_and_recasts"), "result"
         )
         sections = pages.sections_of(page)
         check, verify = sections["Check-it"], sections["How-to-verify"].text()
@@ -103,19 +103,19 @@ class GivenTest(publishing.PublishTest):
         self.assertNotRegex(text, "they came|announced")
 
     def test_refused_texts(self):
-        room = plain_room(self.scratch / "refused-texts")
+        folder = plain_folder(self.scratch / "refused-texts")
         # a ballot between two lines that are alike
         lines = [*REFUSED, "cleo 1,\t2,3", "cleo 1,2,3", "cleo 1,\t2,3"]
-        with open(room / "ballots", "a") as file:
+        with open(folder / "ballots", "a") as file:
             file.writelines(f"{line}\n" for line in lines)
         wanted = [
             f"{number}: {said}" for number, said in zip(NUMBERS, REFUSED.values(), strict=True)
         ]
         wanted += [f"line 13: {TAB}", f"line 15: {TAB}"]
-        self.assertEqual(self.refused_lines(self.page_of(room, "result")), wanted)
-        with open(room / "ballots", "a") as file:
+        self.assertEqual(self.refused_lines(self.page_of(folder, "result")), wanted)
+        with open(folder / "ballots", "a") as file:
             file.writelines(f"y{place}{'z' * 150}\n" for place in range(8_000))
-        page = self.page_of(room, "many")
+        page = self.page_of(folder, "many")
         many = r"The texts from line (\d+) on are too many for this page: see ballots.txt."
         told = re.search(many, page)[1]
         cause = 'bad shape: column 33: "z"; a ballot has a space there: a name has at most 32 bytes'
@@ -130,7 +130,7 @@ class GivenTest(publishing.PublishTest):
         poll = PLAIN_POLL + "last_envelope = 4\n"
         ballots = "ada 1,2\nzoe 1,2,3\nada;1\nada 1,2,3\nada 3,2,1\n"
         page = self.page_of(
-            plain_room(self.scratch / "german", poll, ballots), "--language", "de", "result"
+            plain_folder(self.scratch / "german", poll, ballots), "--language", "de", "result"
         )
         wanted = [
             "Zeile 1: ada 1,2: Sie hat 2 Ränge, und die Abstimmung hat 3 Optionen. (bad rank count: 2 ranks, the poll has 3 options)",
@@ -150,14 +150,14 @@ class GivenTest(publishing.PublishTest):
         names = ["R&D; more", "&lt;b&gt; &amp; &#65;", "None"]
         poll = PLAIN_POLL.replace('"N"', '"None"').replace("Plain", "Q&A;")
         poll = poll.replace('["A", "B"]', json.dumps(names[:-1]))
-        room = plain_room(self.scratch / "ampersands", poll)
-        page = self.page_of(room, "result")
-        picture = (room / "result" / "picture.svg").read_bytes()
+        folder = plain_folder(self.scratch / "ampersands", poll)
+        page = self.page_of(folder, "result")
+        picture = (folder / "result" / "picture.svg").read_bytes()
         texts = [node.text for node in xml.fromstring(picture).iter() if node.tag.endswith("}text")]
         for number, name in enumerate(names, start=1):
             self.assertIn(f"{number} {name}", texts)
         [command] = re.findall("<code>(debvote picture .*?) &gt; picture.svg</code>", page)
-        self.assertEqual(self.typed(room / "result", command), picture.decode())
+        self.assertEqual(self.typed(folder / "result", command), picture.decode())
 
     def typed(self, folder, command):
         """What a command of a page answers in its folder."""
@@ -171,32 +171,32 @@ class GivenTest(publishing.PublishTest):
         """Each command of the page is typed in the folder; what it answers is what the page
         says.
         """
-        room = room_with(self.scratch / "commands", "cycle_and_casting_vote")
+        folder = folder_with(self.scratch / "commands", "cycle_and_casting_vote")
         for name, more in {
             "poll.toml": "last_envelope = 7\n",
             "ballots": "Ada 1,2,3,4\nada 1,2,3,4\nben 1\n",
         }.items():
-            with open(room / name, "a") as file:
+            with open(folder / name, "a") as file:
                 file.write(more)
-        page = self.page_of(room, "--casting", "Bottle", "result")
+        page = self.page_of(folder, "--casting", "Bottle", "result")
         said = "Those who publish this page do not say whose casting vote it was, or when it was given."
         self.assertIn(said, page)
-        folder = room / "result"
-        before = {file.name: file.read_bytes() for file in folder.iterdir()}
+        made = folder / "result"
+        before = {file.name: file.read_bytes() for file in made.iterdir()}
         # files that somebody has laid there change nothing of what the commands answer, but that
         # they are named
         others = {"package.json": '{"type": "module"}', "hmac.py": "boom", "a\nb": "", 'c"d': ""}
         for name, text in others.items():
-            (folder / name).write_text(text)
+            (made / name).write_text(text)
         code = r"<pre><code>(.*?)</code></pre>\n"
-        answer = rf"{code}(?:<p>It prints:</p>\n{code[:-2]})?"
-        found = re.findall(answer, page.partition('<h3 id="How-to-verify">')[2], re.DOTALL)
+        pattern = rf"{code}(?:<p>It prints:</p>\n{code[:-2]})?"
+        found = re.findall(pattern, page.partition('<h3 id="How-to-verify">')[2], re.DOTALL)
         self.assertEqual(len(dict(found)), 14)
         answers = {}
         for command, wanted in found:
             is_there = HAS_PICTURES or "| dot " not in command
             if is_there and (not command.startswith("nodejs") or shutil.which("nodejs")):
-                answers[html.unescape(command)] = self.typed(folder, command)
+                answers[html.unescape(command)] = self.typed(made, command)
                 if wanted and " ls -A " not in command:
                     wanted = html.unescape(wanted) + "\n"
                     self.assertEqual(answers[html.unescape(command)], wanted, command)
@@ -215,5 +215,5 @@ class GivenTest(publishing.PublishTest):
             self.assertEqual(answers[f"{program} {count}"], before["sheet.txt"].decode())
         # the folder is as it was, its picture too
         for name in others:
-            (folder / name).unlink()
-        self.assertEqual({file.name: file.read_bytes() for file in folder.iterdir()}, before)
+            (made / name).unlink()
+        self.assertEqual({file.name: file.read_bytes() for file in made.iterdir()}, before)

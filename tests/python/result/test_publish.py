@@ -159,7 +159,7 @@ class OfElections(CalledTest):
         return re.findall(r"(?m)^  ([0-9a-f]{64})$", self.text(f"{place}/closed.txt"))
 
     def messages(self):
-        """Those with the letter of the result, the newest last."""
+        """The messages with the letter of the result, the newest last."""
         self.say("letters result --from vote@x.example")
         files = (self.folder / "letters" / "result").rglob("*.eml")
         return [
@@ -625,11 +625,11 @@ class OfOpenVotes(OfElections):
         self.assertEqual(self.about(), ["Three"])
         # a folder that is counted otherwise takes no place
         files = self.files()
-        for answer, said in [
+        for branch, said in [
             ('verify) echo "differs at line 1"; exit 9', "nothing was published"),
             ('standing) echo "ada-lovelace 3,2,1"; exit', "another thing than it keeps"),
         ]:
-            path = self.other_debvote(f"case $1 in {answer} ;; esac")
+            path = self.other_debvote(f"case $1 in {branch} ;; esac")
             self.stops("publish --language es", said=said, path=path)
             self.assertEqual(self.files(), files)
         # and that the book was moved stands there, with its reason

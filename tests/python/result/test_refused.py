@@ -13,7 +13,14 @@ from debvote_tools.files import NewFolder, left_beside, remove_left
 from debvote_tools.result.folder import BESIDE_PLACE
 
 from tests.support import page_parts, publishing
-from tests.support.publishing import FILES, PLAIN_POLL, PROGRAM, plain_room, publish, publish_files
+from tests.support.publishing import (
+    FILES,
+    PLAIN_POLL,
+    PROGRAM,
+    plain_folder,
+    publish,
+    publish_files,
+)
 
 WIN = publishing.EXAMPLES / "plain_win"
 POLL, BALLOTS = WIN / "poll.toml", WIN / "ballots"
@@ -35,19 +42,19 @@ class RefusedTest(publishing.PublishTest):
 
     def test_what_is_refused(self):
         """What is refused leaves no folder, and nothing beside it."""
-        room = self.scratch / "refusals"
-        (room / "full").mkdir(parents=True)
-        (room / "full" / "file").touch()
-        bad_poll, many, result = self.scratch / "bad.toml", self.scratch / "many", room / "result"
+        folder = self.scratch / "refusals"
+        (folder / "full").mkdir(parents=True)
+        (folder / "full" / "file").touch()
+        bad_poll, many, result = self.scratch / "bad.toml", self.scratch / "many", folder / "result"
         bad_poll.write_text("title = 1\n")
         many.write_bytes(b"\n" * 100_001)
         for status, said, *words in [
-            (2, "it exists already", POLL, BALLOTS, room / "full"),
-            (2, "full/file: it exists already", POLL, BALLOTS, room / "full" / "file"),
-            (7, "the folder can't be made", POLL, BALLOTS, room / "none" / "result"),
+            (2, "it exists already", POLL, BALLOTS, folder / "full"),
+            (2, "full/file: it exists already", POLL, BALLOTS, folder / "full" / "file"),
+            (7, "the folder can't be made", POLL, BALLOTS, folder / "none" / "result"),
             (3, "poll refused", bad_poll, BALLOTS, result),
-            (3, "none: it can't be read", room / "none", BALLOTS, result),
-            (4, "none: it can't be read", POLL, room / "none", result),
+            (3, "none: it can't be read", folder / "none", BALLOTS, result),
+            (4, "none: it can't be read", POLL, folder / "none", result),
             (4, "too many lines", POLL, many, result),
             (8, "casting option is not in the poll", POLL, BALLOTS, result, "--casting", "Zed"),
             (8, "which is not left; left is 1 Brest;", POLL, BALLOTS, result, "--casting", "Kochi"),
@@ -55,7 +62,7 @@ class RefusedTest(publishing.PublishTest):
             (2, "desks", POLL, BALLOTS, result, "--desks", "9"),
         ]:
             self.assert_refused(publish_files(*words), status, said)
-            self.assertEqual(os.listdir(room), ["full"], words)
+            self.assertEqual(os.listdir(folder), ["full"], words)
         self.assertEqual(publish_files(POLL, BALLOTS, result, path="/nowhere")[2], 127)
         # other programs in place of debvote
         second = "recount.py, the second count, differs from debvote in its `{}`: {}; nothing was published"
@@ -82,7 +89,7 @@ class RefusedTest(publishing.PublishTest):
             path = self.stand_in(name, f"case $1 in {text} {AS_IT_IS}")
             said = second.format(name, said) if said.startswith("line") else said
             self.assert_refused(publish_files(POLL, BALLOTS, result, path=path), status, said)
-            self.assertEqual(os.listdir(room), ["full"], name)
+            self.assertEqual(os.listdir(folder), ["full"], name)
 
     def test_a_folder_that_is_there(self):
         """An empty one is taken, by any name, and none that was published; an input may come from
@@ -103,23 +110,23 @@ class RefusedTest(publishing.PublishTest):
         self.assertEqual({file: file.read_bytes() for file in place.iterdir()}, before)
 
     def test_a_run_that_can_not_say_or_is_asked_to_end(self):
-        room = self.scratch / "ended"
-        room.mkdir()
+        folder = self.scratch / "ended"
+        folder.mkdir()
         words = [sys.executable, publishing.PUBLISH, "--poll", POLL, "--ballots", BALLOTS]
         how = {"stderr": subprocess.PIPE, "text": True, "timeout": publishing.SECONDS}
         env = {**os.environ, "PATH": publishing.PATH}
         with open("/dev/full", "w") as full:
-            ended = subprocess.run([*words, room / "result"], stdout=full, env=env, **how)
-        said = f"debvote-publish: the output failed; the folder {room / 'result'} was made nevertheless: look at its page index.html"
+            ended = subprocess.run([*words, folder / "result"], stdout=full, env=env, **how)
+        said = f"debvote-publish: the output failed; the folder {folder / 'result'} was made nevertheless: look at its page index.html"
         self.assertEqual((ended.returncode, ended.stderr.splitlines()[-1:]), (7, [said]))
         slow = f'case "$*" in *ballots.txt*) exec /bin/sleep 60 ;; {AS_IT_IS}'
         env = {"PATH": self.stand_in("slow", slow)}
-        started = subprocess.Popen([*words, room / "late"], env=env, start_new_session=True)
-        while len(os.listdir(room)) < 2 and started.poll() is None:
+        started = subprocess.Popen([*words, folder / "late"], env=env, start_new_session=True)
+        while len(os.listdir(folder)) < 2 and started.poll() is None:
             time.sleep(0.05)
         started.terminate()
         self.assertEqual(started.wait(publishing.SECONDS), 128 + signal.SIGTERM)
-        self.assertEqual(os.listdir(room), ["result"])
+        self.assertEqual(os.listdir(folder), ["result"])
 
     def test_numbers_that_no_float_holds(self):
         (self.scratch / "none").touch()
@@ -142,19 +149,19 @@ class RefusedTest(publishing.PublishTest):
         """Where the poll is refused, the fault says what tells more (also that two files are
         exchanged), and nothing is made.
         """
-        room = plain_room(self.scratch / "refused")
-        (room / "bad.toml").write_text("title = 1\n")
-        (room / "new.toml").write_text(PLAIN_POLL + 'note = "\\e"\n')
-        before = sorted(os.listdir(room))
+        folder = plain_folder(self.scratch / "refused")
+        (folder / "bad.toml").write_text("title = 1\n")
+        (folder / "new.toml").write_text(PLAIN_POLL + 'note = "\\e"\n')
+        before = sorted(os.listdir(folder))
         explain = "{}: poll refused: {}; nothing was published: debvote explain --poll {} says what"
         for poll, ballots, said in [
             ("ballots", "poll.toml", explain.format("ballots", "syntax", "ballots")),
             ("bad.toml", "ballots", explain.format("bad.toml", "key title", "bad.toml")),
             ("new.toml", "ballots", "new.toml: it can't be read (Unescaped '\\' in a string"),
         ]:
-            found = publish(room, "--poll", poll, "--ballots", ballots, "result")
+            found = publish(folder, "--poll", poll, "--ballots", ballots, "result")
             self.assert_refused(found, 3, f"debvote-publish: {said}")
-        self.assertEqual(sorted(os.listdir(room)), before)
+        self.assertEqual(sorted(os.listdir(folder)), before)
 
     def test_secret_votes(self):
         roll = ["0" * 31 + digit for digit in "0123"]
@@ -172,11 +179,11 @@ class RefusedTest(publishing.PublishTest):
             ("twice", poll, f"{once}{roll[0]} 2,1,3\n", f"{more}, or counts more than once"),
             ("late", late, once, more),
         ):
-            room = plain_room(self.scratch / name, text, ballots)
-            self.assert_refused(publish(room, *FILES, "result"), 9, said)
-        room = plain_room(self.scratch / "aliases", poll, once)
-        self.assertEqual(publish(room, *FILES, "result")[1:], ("", 0))
-        sections = page_parts.sections_of((room / "result" / "index.html").read_text())
+            folder = plain_folder(self.scratch / name, text, ballots)
+            self.assert_refused(publish(folder, *FILES, "result"), 9, said)
+        folder = plain_folder(self.scratch / "aliases", poll, once)
+        self.assertEqual(publish(folder, *FILES, "result")[1:], ("", 0))
+        sections = page_parts.sections_of((folder / "result" / "index.html").read_text())
         self.assertNotIn("Who-voted", sections)
         said = "What was refused or came late is not published."
         self.assertIn(said, sections["Refused-lines"].text())

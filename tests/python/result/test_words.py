@@ -55,8 +55,8 @@ class WordsTest(unittest.TestCase):
         }.items():
             self.assertEqual(ballots_in_words(names)(ranks), wanted)
         # of a motion a hyphen is behind each rank, also one of two digits
-        answer = ballots_in_words(["Yes", "No"], motion=True)
-        said = [answer(ranks) for ranks in ("10,99", "99,10", "-,99", "99,-", "-,-")]
+        in_words = ballots_in_words(["Yes", "No"], motion=True)
+        said = [in_words(ranks) for ranks in ("10,99", "99,10", "-,99", "99,-", "-,-")]
         self.assertEqual(said, ["Yes", "No", "No", "Yes", "Abstain"])
 
     def test_a_ballot_is_taken_apart_by_questions_and_put_together(self):
