@@ -151,8 +151,9 @@ class Office:
 
     def yes(self, text, answer="y", place=None):
         """Answers what a page asks, by its own form."""
-        action = re.search(r'action="([^"]*)"><input type="hidden" name="asked"', text)[1]
-        action = action.removeprefix(self.base)
+        found = re.search(r'action="([^"]*)"><input type="hidden" name="asked"', text)
+        self.test.assertTrue(found, f"nothing is asked: {seen(text)}")
+        action = found[1].removeprefix(self.base)
         return self.post(place or action, asked=self.asked(text), answer=answer)
 
     def agree(self, place, **fields):
