@@ -161,7 +161,7 @@ class ElectionTest(unittest.TestCase):
         with contextlib.closing(book.connection), mock.patch.dict(
             os.environ, {"XDG_STATE_HOME": str(self.state)}
         ):
-            book.note().put(Note(book.last_act().number, book.last_act().digest, book.names))
+            book.note().put(Note(book.last_act().number, book.last_act().digest, book.act_names))
 
     def made(self) -> pathlib.Path:
         """A new election, which the tests of this process copy."""

@@ -17,6 +17,7 @@ from collections.abc import Mapping, Sequence
 
 from tests.support import elections
 from tests.support.election_books import LettersTest
+from tests.support.letters import TITLE
 
 try:
     from aiosmtpd.controller import Controller
@@ -25,6 +26,15 @@ except ImportError:
     Controller = SMTP = AuthResult = None
 
 AT = "https://club.example/vote/"
+# what a letter of the call says
+FORM = f"The page of the vote, which writes the line of your ballot for you, and on which the result will be: {AT}"
+LINE = (
+    "Your line, with a rank in the place of each _. The first place is for option 1, and so on; 1 is the best, equal ranks are allowed, "
+    "and - is last: "
+)
+WHEN = f"{TITLE} Vote until: Friday, 4 December 2026, 18:00 (UTC)"
+OPTIONS = "Option 1: At the lake Option 2: In the town hall Option 3: Sell the house and meet there (majority ratio 3) "
+OPTIONS += "Option 4: Further discussion (the default option)"
 TEN, END = "2026-11-23T10:00:00+00:00", "2026-12-04 18:00"
 
 # what the server says of connections that are cut, as the tests want it

@@ -1,4 +1,4 @@
-"""The book: one SQLite database with everything that an election knows.
+"""The book: one SQLite database with all of an election, and whether this machine knows it so.
 
 An act adds rows, in one transaction, and is reported only after its commit. Triggers refuse what
 would change or remove a row.
@@ -164,7 +164,7 @@ class Book:
         self.file = file_at(path)
         self.read_acts = list[DoneAct]()
         # how many acts of each name were read
-        self.names = collections.Counter[str]()
+        self.act_names = collections.Counter[str]()
         # what `queries.all_electors` has read, and when; the names of the acts of this process
         self.electors_at: tuple[object, list[Any]] = (None, [])
         self.own_acts = dict[int, ActName]()
@@ -189,7 +189,7 @@ class Book:
                 self.read_acts.append(DoneAct(number, from_text(time), *others))
             except (ValueError, TypeError):
                 raise damaged(self.path, f"act {number} has no time") from None
-            self.names[others[0]] += 1
+            self.act_names[others[0]] += 1
         return tuple(self.read_acts)
 
     def last_act(self) -> DoneAct:
@@ -324,7 +324,7 @@ class Book:
         with contextlib.suppress(Fault, OSError):
             if is_moved or self.strangeness() is None:
                 last = self.last_act()
-                self.note().put(Note(last.number, last.digest, self.names), is_moved=is_moved)
+                self.note().put(Note(last.number, last.digest, self.act_names), is_moved=is_moved)
 
     def note_done(self, name: str, number: int) -> None:
         """Notes that something is done up to an act, if a note can be written."""
@@ -339,8 +339,8 @@ class Book:
         if noted is None:
             return "this computer has never seen this election in this folder"
         if digest is None:
-            lacking = collections.Counter(noted.names) - self.names
-            acts = ", ".join(f"{name} ({count})" for name, count in lacking.items())
+            lacking_acts = collections.Counter(noted.names) - self.act_names
+            acts = ", ".join(f"{name} ({count})" for name, count in lacking_acts.items())
             return (
                 f"it ends with act {last.number}, and this computer has seen act {noted.act}: it "
                 f"is an older copy, which lacks {acts}"

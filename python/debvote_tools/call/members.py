@@ -1,4 +1,4 @@
-"""The list of members, a table as spreadsheets save it, and the roll that it becomes.
+"""The list of members, a table; the roll that it becomes, and what may change after the call.
 
 The table is CSV with a comma, semicolon or tab, in UTF-8 or UTF-16.
 """

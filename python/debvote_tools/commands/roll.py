@@ -1,4 +1,4 @@
-"""The command `roll`, which reads the list of members, also after the call."""
+"""The command `roll`, which reads the list of members into the book."""
 
 import re
 from collections.abc import Iterable, Iterator, Mapping, Sequence

@@ -1,4 +1,4 @@
-"""What stops a close, and after it a count, a publication and the letters of the result.
+"""What stops a step: `close`, and after it `count`, `publish` and the letters of the result.
 
 All of them ask `what_stops`. Letters that arrived in time and wait, whenever they were added, and,
 but for the letters of the result, ballots in a box that was not asked may decide the vote.

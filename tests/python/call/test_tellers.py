@@ -180,7 +180,7 @@ class ListsProgram(unittest.TestCase):
         text = "".join(f"{n:02} {row.split(' ')[1]}\n" for n, row in enumerate(rows, start=1))
         (self.folder / "ballots.txt").write_text(text)
 
-    def fault(self, *words: str) -> str:
+    def fault_of_lists(self, *words: str) -> str:
         """What it ends with, which is no status."""
         with contextlib.chdir(self.folder), self.assertRaises(SystemExit) as ended:
             lists.main(words)
@@ -210,7 +210,7 @@ class ListsProgram(unittest.TestCase):
         (self.folder / "list-1.txt").write_text(tellers.signed(body, "carla"))
         (self.folder / "list-2.txt").unlink()
         said = "carla lost your ballot: lines 1 to 1 below the first of my-ballot.txt show it"
-        self.assertEqual(self.fault("my-ballot.txt"), f"list-1.txt: {said}")
+        self.assertEqual(self.fault_of_lists("my-ballot.txt"), f"list-1.txt: {said}")
 
     def test_what_proves_nothing(self):
         rows = OWN.split("\n")
@@ -224,7 +224,7 @@ class ListsProgram(unittest.TestCase):
             (MARK, "0" * 16),
         ):
             (self.folder / "my-ballot.txt").write_text(OWN.replace(old, new))
-            said = self.fault("my-ballot.txt")
+            said = self.fault_of_lists("my-ballot.txt")
             self.assertNotIn("lost your ballot", said)
             self.assertIn("my-ballot.txt: ", said)
 
@@ -237,8 +237,8 @@ class ListsProgram(unittest.TestCase):
             file = self.folder / name
             before = file.read_text()
             file.write_text(before.replace(old, new))
-            self.assertIn(words, self.fault())
+            self.assertIn(words, self.fault_of_lists())
             file.write_text(before)
         for step in range(3):
             (self.folder / f"list-{step}.txt").unlink()
-        self.assertIn("type this in the folder with the lists", self.fault())
+        self.assertIn("type this in the folder with the lists", self.fault_of_lists())

@@ -477,7 +477,7 @@ class Answers(BoxPageTest):
             self.assertEqual(self.state["fields"], 21)
         self.assertEqual(*(one for one in host.requests if one.startswith(b"POST")))
 
-    def test_nothing_changes_until_the_answer(self):
+    def test_the_form_is_locked_until_the_host_answers(self):
         go = queue.SimpleQueue[bool]()
 
         def lie(request: bytes) -> Iterable[bytes]:

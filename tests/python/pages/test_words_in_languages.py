@@ -208,12 +208,12 @@ class Marked(languages.LanguageTest):
                 self.check_messages(place, "closed", "result")
 
     def test_what_was_done(self):
-        place, because = self.called("done", "de"), ("--because", languages.REASON)
-        self.election("done", "call", "--take-back", *because)
-        self.election("done", "call", "--to", languages.TO)
+        place, because = self.called("all-acts", "de"), ("--because", languages.REASON)
+        self.election("all-acts", "call", "--take-back", *because)
+        self.election("all-acts", "call", "--to", languages.TO)
         self.change_members(place, "e01@", "other@")
         (self.scratch / "state").rename(self.scratch / "other-state")
-        self.election("done", "add", "--yes", "--moved", *because, given="e01 1,2,3,4\n")
-        self.election("done", "close")
-        self.election("done", "publish")
+        self.election("all-acts", "add", "--yes", "--moved", *because, given="e01 1,2,3,4\n")
+        self.election("all-acts", "close")
+        self.election("all-acts", "publish")
         self.check_files(place, "result/index.html")
