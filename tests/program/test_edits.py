@@ -530,6 +530,7 @@ class OlderProver:
 
 
 @NEEDS_KIT
+@pytest.mark.whole
 def test_with_an_older_kit_all_is_proved_again_if_anything_has_changed(tmp_path, monkeypatch):
     toy = Toy(tmp_path, monkeypatch)
     begun = []

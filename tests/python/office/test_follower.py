@@ -5,6 +5,8 @@ import html
 import re
 import urllib.parse
 
+import pytest
+
 from tests.python.book import test_what_next
 from tests.support import elections, offices
 from tests.support.outgoing import SendTest
@@ -65,15 +67,19 @@ class ByButtons(test_what_next.Followed):
         return text
 
 
+# what the commands say, test_what_next follows
+@pytest.mark.whole
 class OneQuestion(ByButtons, SendTest):
     pass
 
 
+@pytest.mark.whole
 class SecretVote(ByButtons, SendTest):
     poll = f"secret = true\n{elections.POLL}"
     call_words = [*ByButtons.call_words, "--yes"]
 
 
+@pytest.mark.whole
 class ThreeQuestions(ByButtons, QuestionsTest, SendTest):
     labels = ["A", "B", "C"]
 

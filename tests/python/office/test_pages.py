@@ -4,6 +4,8 @@ import re
 import shutil
 import subprocess
 
+import pytest
+
 from tests.support import elections, offices, tellers
 from tests.support.elections import POLL, ElectionTest
 from tests.support.questions import FEE, QuestionsTest
@@ -94,10 +96,12 @@ class Plain(EachStage, ElectionTest):
     call_words = ("--to", "vote@club.example", "--at", "https://club.example/vote/")
 
 
+@pytest.mark.whole
 class OfCodesForNames(EachStage, ElectionTest):
     poll = POLL + "secret = true\n"
 
 
+@pytest.mark.whole
 class OfDrawnCodes(EachStage, ElectionTest):
     poll = POLL + "secret = true\n"
     codes_words = ("--on-roll",)
@@ -109,6 +113,7 @@ class OfDrawnCodes(EachStage, ElectionTest):
             office.yes(office.type(name, line.split()[1]))
 
 
+@pytest.mark.whole
 class OfSeveral(EachStage, QuestionsTest):
     polls = {"A": FEE + "motion = true\n", "B": QuestionsTest.polls["B"]}
     new_words = ("--questions", "2")
