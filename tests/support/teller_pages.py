@@ -37,8 +37,9 @@ class TellerPage:
 
     def __init__(self, window: at_browser.Window, language: Language = ENGLISH):
         self.window = window
-        self.folder = pathlib.Path(tempfile.mkdtemp(prefix="debvote-teller-"))
-        self.file = self.folder / "teller.html"
+        # it goes with the page
+        self.folder = tempfile.TemporaryDirectory(prefix="debvote-teller-")
+        self.file = pathlib.Path(self.folder.name, "teller.html")
         self.file.write_bytes(teller_page(language))
 
     def open(self):
