@@ -59,7 +59,7 @@ class AtATerminal(TerminalTest):
         self.assertIn("Type y for yes, or n for no.\n", shown)
         desk.until("Ballot: ")
         desk.after("\n", "Type a ballot, or q to end.\n", "Ballot: ")
-        desk.ends("\x04", "This desk has entered 0 lines.\n")
+        desk.ends("\x04", "\nThis desk has entered 0 lines.\n")
         for key in ("\x04", "\x03"):
             desk = self.at_terminal()
             desk.after(f"ada {RANKS}\n", CAST)

@@ -2,6 +2,8 @@
 
 import unittest
 
+from debvote_tools.inbox.letter_text import MOST_LOOSE
+
 from tests.support import elections
 from tests.support.election_books import LettersTest
 from tests.support.letters import (
@@ -71,6 +73,11 @@ class Loose(unittest.TestCase):
             self.assertEqual(proposed(letter("ada", RANKS, **how)), [])
         self.assertEqual(proposed(letter("ada", "ben 1 2 4 3")), [f"ben {RANKS}"])
 
+    def test_more_than_a_thousand_lines_are_not_read_so(self):
+        for number, found in ((MOST_LOOSE, [BALLOT]), (MOST_LOOSE + 1, [])):
+            text = "\n".join(["1 2 4 3", *["x"] * (number - 1)])
+            self.assertEqual(proposed(letter("ada", text)), found)
+
     def test_words_and_labels_of_several_questions(self):
         several = {"labels": ("A", "B"), "motions": ("A",), "words": {"yes": "1,2"}}
         for text, loose in (
@@ -79,6 +86,11 @@ class Loose(unittest.TestCase):
             ("B yes", "B yes"),
         ):
             self.assertEqual(names(**several).loose(text), loose)
+
+    def test_a_line_longer_than_ballots_keeps_its_words(self):
+        for longest, found in ((len("ada yes"), "ada 1,2"), (len("ada yes") - 1, "ada yes")):
+            of_motion = names(words={"yes": "1,2"}, longest_line=longest)
+            self.assertEqual(of_motion.with_ranks("ada yes"), found)
 
     def test_a_couple_by_the_mark_of_one(self):
         both = f"{BALLOT}\nben {RANKS}\n"

@@ -1,5 +1,6 @@
 """Who may ask the office for anything, and how it begins and ends."""
 
+import concurrent.futures
 import http
 import os
 import pathlib
@@ -13,10 +14,11 @@ from unittest import mock
 
 import pytest
 from debvote_tools.office import office as office_module
-from debvote_tools.office import server
+from debvote_tools.office import server, visit
 
 from tests.support import boxes, elections, offices
 from tests.support.elections import ElectionTest
+from tests.support.program import ROOT
 
 FORM = {"Content-Type": "application/x-www-form-urlencoded"}
 # of each answer
@@ -237,6 +239,22 @@ class BeginAndEnd(ElectionTest):
         self.assertLess(int(memory), 80_000)
 
 
+class Reading(ElectionTest):
+    def test_one_page_at_a_time_reads_the_book(self):
+        """A second thread of the process would close a file of the database that the first has open."""
+        office = office_module.Office(ROOT / "bin", None)
+        self.addCleanup(office.close)
+        office.folder = self.folder
+        reading = visit.Visit(office, office_module.ALL, "", "", {})
+        with mock.patch.dict(os.environ, XDG_STATE_HOME=str(self.state)):
+            self.assertEqual(reading.election.folder, self.folder)
+        with concurrent.futures.ThreadPoolExecutor(1) as other:
+            for is_free in (False, True):
+                found = other.submit(office.reading.acquire, blocking=False).result()
+                self.assertEqual(found, is_free)
+                reading.close()
+
+
 class OwnPrograms(ElectionTest):
     call_words = ("--to", "vote@club.example", "--at", "https://club.example/vote/")
 
@@ -294,13 +312,16 @@ class WithBox(boxes.BoxElectionTest):
         text = office.post("upload", kind="call")
         office.yes(office.shows(text, "Enter 1 ballot?"), "n")
         self.assertEqual(self.askings(), before + 2)
-        # a program that fails is the last of its row
-        self.write("office.toml", 'upload = ["false"]\n')
-        office.trust()
-        text = office.post("upload", kind="call")
-        text = office.yes(text, "n") if 'name="asked"' in text else text
-        self.assertIn("<h1>Look at this</h1>", text)
-        self.assertEqual(self.askings(), before + 3)
+        # a program that fails, or is not there, is the last of its row
+        for number, (program, said) in enumerate(
+            (("false", "Look at this"), ("no-program", "install it, or name another one")), start=3
+        ):
+            self.write("office.toml", f'upload = ["{program}"]\n')
+            office.trust()
+            text = office.post("upload", kind="call")
+            text = office.yes(text, "n") if 'name="asked"' in text else text
+            office.shows(text, said)
+            self.assertEqual(self.askings(), before + number)
 
     def askings(self):
         query = "SELECT count(*) FROM act WHERE name = 'letters' AND detail ->> 'box' IS NOT NULL"

@@ -3,6 +3,9 @@
 import pathlib
 import re
 import shutil
+from unittest import mock
+
+from debvote_tools.outbox import steps
 
 from tests.support import elections
 from tests.support.election_books import LAKE
@@ -299,6 +302,27 @@ class ReceiptsAndReminders(OutTest):
         names = "From To Subject Date Message-ID X-Unsent Auto-Submitted MIME-Version Content-Type Content-Transfer-Encoding"
         self.assertEqual([name for name, _ in messages["fay"].raw_items()], names.split())
         self.assertEqual(messages["fay"]["To"], "fay@club.example")
+
+    def test_when_reminders_are_due(self):
+        """Two days before the end; a web box that was not asked lately is asked first."""
+        self.done("letters call")
+        for step in ("upload", "letters"):
+            self.done("status", "--done", step)
+        remind = "debvote-election letters reminders --send --server HOST\n"
+        for minute, unasked, said in (
+            ("17:59", None, "until "),
+            ("18:01", None, f"9 electors have no ballot: {remind}"),
+            (
+                "18:02",
+                "now",
+                f"9 electors have no ballot: debvote-election add --box, then {remind}",
+            ),
+        ):
+            self.set_clock(f"2026-12-02T{minute}:00+00:00")
+            self.done("backup", self.scratch / minute)
+            with mock.patch.object(steps, "unasked_fault", return_value=unasked):
+                found = self.done("status").output.partition("\nNext: ")[2]
+            self.assertEqual(found[: len(said)], said)
 
     def test_to_whom_reminders_go(self):
         """A reminder tells with its reason a line that came and does not count, as the receipt does.

@@ -59,6 +59,7 @@ class RefusedTest(publishing.PublishTest):
             (8, "casting option is not in the poll", POLL, BALLOTS, result, "--casting", "Zed"),
             (8, "which is not left; left is 1 Brest;", POLL, BALLOTS, result, "--casting", "Kochi"),
             (2, "--even-so", POLL, BALLOTS, result, "--even-so"),
+            (2, "--casti", POLL, BALLOTS, result, "--casti", "Zed"),
             (2, "desks", POLL, BALLOTS, result, "--desks", "9"),
         ]:
             self.assert_refused(publish_files(*words), status, said)
