@@ -124,8 +124,8 @@ class Why:
         )
 
     def beaten(self, option: int) -> list[Row]:
-        """The defeats by an option that were not removed, the narrowest first: none of an option that
-        was dropped, which more voters may prefer to the winner.
+        """The defeats by an option that were not removed, the narrowest first: none of an option
+        that was dropped, which more voters may prefer to the winner.
         """
         rows = self.rows(
             pair for pair in self.sheet.defeats if pair[0] == option and pair not in self.removed
