@@ -458,7 +458,12 @@ class Pages(AskedTest):
                 (end, policy + end, "the web host sends its page with a Content-Security-Policy"),
             ):
                 self.add_box(f"Note: {note}")
+                is_next = "\nNext: the page on the web host is not that of the call: " in self.told(
+                    "status"
+                )
+                self.assertEqual(is_next, "did not come" in note)
             said = self.published()
+        self.assertNotIn("the page on the web host", self.told("status"))
         self.assertNotIn(DOUBT, said)
         self.assertEqual(said.count(f"it did not show the page at {between.at}"), 2)
 
