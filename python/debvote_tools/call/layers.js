@@ -54,9 +54,9 @@
   };
 
   points.forEach(async (point, place) => {
+    // its place is in the order of the tellers, whichever digest is there first
+    const said = byId("Keys").appendChild(document.createElement("p"));
     const digits = hexOf(await crypto.subtle.digest("SHA-256", point)).slice(0, 16);
-    const said = document.createElement("p");
     said.textContent = words.sealed_to.replace("{name}", tellers[2 * place]).replace("{fingerprint}", digits.match(/.{4}/g).join("-"));
-    byId("Keys").append(said);
   });
 }

@@ -26,7 +26,7 @@ STATES = ["sending", "received", "late", "changed", "unsure", "over", "lost", "u
 # what the scripts find of a page and a browser; the own keys are those of the vectors, in their order
 AROUND = """
 const nodes = new Map(), pressed = [], kept = [];
-const made = (id) => ({ id, append: (node) => kept.push(node.textContent), addEventListener: (_, call) => pressed.push(call) });
+const made = (id) => ({ id, appendChild: (node) => (kept.push(node), node), addEventListener: (_, call) => pressed.push(call) });
 const node = (id) => nodes.get(id) ?? nodes.set(id, made(id)).get(id);
 const document = { getElementById: node, createElement: made, documentElement: { lang: "en" } };
 const location = { protocol: "https:" }, isSecureContext = true, navigator = {};
@@ -44,6 +44,15 @@ crypto.subtle.generateKey = async (_, isTold) => {
     publicKey: await crypto.subtle.importKey("jwk", { ...own, d: undefined }, how, true, []),
     privateKey: await crypto.subtle.importKey("jwk", own, how, isTold, ["deriveBits"]),
   };
+};
+// the digest of the first teller is there last
+const digest = crypto.subtle.digest.bind(crypto.subtle);
+let before = new Promise((done) => setTimeout(done, 5));
+crypto.subtle.digest = async (...given) => {
+  const wait = before;
+  before = null;
+  await wait;
+  return digest(...given);
 };
 crypto.getRandomValues = (bytes) => bytes.map((byte, place) => (bytes[place] = bytes.length === 16 ? Number(place === 15) : 10));
 Date.prototype.toISOString = () => TIME;
@@ -73,7 +82,8 @@ def sealed_under_node(*ballots: tuple[str, str], options: int = 4) -> list[dict[
     # with one number for all tries, none passes a firewall that refuses the first
     scripts = scripts.replace("tries = 500", "tries = 2")
     end = """await pressed[0]();
-      found.push({ bodies, kept, number: node("Number").textContent, href: node("File").href, hidden: node("Numbered").hidden });
+      while (kept.some((node) => !node.textContent)) await new Promise((done) => setTimeout(done, 1));
+      found.push({ bodies, kept: kept.map((node) => node.textContent), number: node("Number").textContent, href: node("File").href, hidden: node("Numbered").hidden });
     """
     runs = ""
     for line, named in ballots:
