@@ -366,8 +366,8 @@ def judgement_of_original(
     if is_unchecked:
         return Ruling.WAITS, Reason.PERHAPS_COPY()
     if case.circumstances.is_closed:
-        # it would become late, and the plainer a ballot is, the less would that be noticed; last, as
-        # whoever sets letters aside has to see that one has no ballot
+        # it would become late, and the plainer a ballot is, the less would that be noticed. This
+        # comes last: whoever sets letters aside has to see that one has no ballot
         return Ruling.WAITS, Reason.CLOSED()
     return Ruling.GOES_IN, None
 
