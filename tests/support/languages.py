@@ -7,6 +7,7 @@ import os
 import pathlib
 import re
 import sys
+import time
 import unittest
 import unittest.mock
 from collections.abc import Iterator
@@ -170,6 +171,8 @@ class LanguageTest(elections.ElectionTest):
     def letters(self, place: pathlib.Path) -> list[pathlib.Path]:
         """Files with the letters of electors, which have arrived now."""
         files = []
+        # they tell whole seconds, and have to come after the call
+        time.sleep(1 - time.time() % 1)
         for name, text in LETTERS.items():
             subject = in_brackets(elections.ANY_MARK, elections.any_own(name))
             now = email.utils.formatdate()

@@ -2,6 +2,7 @@
 
 import email.utils
 import re
+import time
 
 from debvote_tools.office import acts
 
@@ -90,6 +91,8 @@ class InGerman(ElectionTest):
         self.shows(self.german.yes(self.german.type("G", "1,2"), "1"))
         self.shows(self.german.yes(self.german.page("desk/1"), "n"), "Es wurde nicht erfasst.")
         self.shows(self.german.yes(self.german.page("desk/1"), "q"), "An diesem Platz erfasst:")
+        # a letter tells whole seconds, and has to come after the call
+        time.sleep(1 - time.time() % 1)
         now = email.utils.formatdate()
         text = "Guten Tag,\ndan 2,1\nSchöne Grüße, Dan"
         waits = letter("dan", text, subject="Meine Stimme", time=now)
